@@ -1,0 +1,6 @@
+pub mod Facts
+pub mod Protocols
+pub mod Guards
+pub mod Block
+pub mod Emit
+pub mod Compile

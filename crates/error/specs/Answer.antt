@@ -1,0 +1,29 @@
+-- Document 01's table of refusals, and answers that may be one of them.
+use Prim.Native.Nat.{ℕ}
+use Rattle.error.specs.declared.Refusal.{Refusal}
+use Rattle.error.specs.declared.Refusal.the-variants.{StrangeFile, WrongCount, BadRecord, NotOneTree, KindOnRaw, PortProtocol, EtherOnRaw, FarJump, ShortBuffer, LongFrame, OddProgram}
+
+-- "| Number | Word | Given when |"
+abbrev pub numberOf : Refusal → ℕ
+numberOf StrangeFile = 1
+numberOf WrongCount = 2
+numberOf BadRecord = 3
+numberOf NotOneTree = 4
+numberOf KindOnRaw = 5
+numberOf PortProtocol = 6
+numberOf EtherOnRaw = 7
+numberOf FarJump = 8
+numberOf ShortBuffer = 9
+numberOf LongFrame = 10
+numberOf OddProgram = 11
+
+-- a value, or a refusal
+pub data Out (A : Type 0) : Type 0 where
+  refused : Refusal → Out A
+  done : A → Out A
+
+-- what is refused first is the answer
+infixl 10 _>>=_
+abbrev pub _>>=_ : {A B : Type 0} → Out A → (A → Out B) → Out B
+_>>=_ (refused r) k = refused r
+_>>=_ (done a) k = k a

@@ -1,0 +1,53 @@
+-- The build: a tree file's program in a lent buffer, or a refusal.
+use Prim.Native.Nat.{ℕ, _*_, _-_}
+use mathlib.Core.List.{List, [], _++_}
+use mathlib.Core.Bool.{Bool, cond}
+use lib.ListN.{length, replicate}
+use lib.Dec.{ltb}
+use Rattle.error.specs.declared.Refusal.{Refusal}
+use Rattle.error.specs.declared.Refusal.the-variants.{ShortBuffer}
+use Rattle.error.specs.Answer.{Out, refused, done, _>>=_, numberOf}
+use Rattle.bpf.specs.declared.Insn.{Insn}
+use Rattle.bpf.specs.Program.{programBytes}
+use Rattle.ast.specs.File.{Filter, parse}
+use Rattle.codegen.specs.Compile.{compile}
+use Rattle.pft.specs.declared.BuildResult.{BuildResult}
+use Rattle.pft.specs.declared.BuildResult.the-variants.{Count, Refused}
+
+-- what a build leaves: its answer, and every byte of the lent buffer
+pub record Built : Type 0 where
+  pub answer : BuildResult
+  pub buffer : List ℕ
+
+-- "A refusal of 1 to 9 zeroes the whole program buffer."
+abbrev pub rejected : ℕ → Refusal → Built
+rejected lent r = record { answer = Refused r; buffer = replicate lent 0 }
+
+-- "The program starts the lent buffer; the rest of it is zero. The answer is the instruction count."
+abbrev pub placed : ℕ → List Insn → Built
+placed lent p = record { answer = Count (length p); buffer = programBytes p ++ replicate (lent - 8 * length p) 0 }
+
+-- number 9, "fewer than 8 × instructions bytes lent"; "9 is last"
+abbrev pub into : ℕ → Out (List Insn) → Built
+into lent (refused r) = rejected lent r
+into lent (done p) = cond (ltb lent (8 * length p)) (rejected lent ShortBuffer) (placed lent p)
+
+-- a file's program: "1, 2, 3, 4 come in that order over the whole file. Of 5 to 8 the one the source meets first is given"
+unfoldable pub program : List ℕ → Out (List Insn)
+program tree = parse tree >>= λ t. compile (t .link) (t .tree)
+
+-- the build of a file into a buffer of so many bytes
+unfoldable pub build : List ℕ → ℕ → Built
+build tree lent = into lent (program tree)
+
+-- ---- the values of the answer
+
+-- the refusal's number; 0 for a count
+abbrev pub refusalOf : BuildResult → ℕ
+refusalOf (Count c) = 0
+refusalOf (Refused r) = numberOf r
+
+-- the count; 0 for a refusal
+abbrev pub countOf : BuildResult → ℕ
+countOf (Count c) = c
+countOf (Refused r) = 0

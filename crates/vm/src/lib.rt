@@ -1,0 +1,29 @@
+// The classic BPF machine: what a run says.
+use error::Refusal;
+
+pub enum Verdict {
+    Accepted,
+    Dropped,
+    Short,
+    Broken,
+}
+
+// A run's verdict, and how many instructions it fetched.
+pub struct Outcome {
+    pub verdict: Verdict,
+    pub steps: u32,
+}
+
+pub enum RunResult {
+    Ran(Outcome),
+    Refused(Refusal),
+}
+
+// What one instruction does: it sets A, X or a scratch word, skips some of the following instructions, or ends the run.
+pub enum Effect {
+    SetA(u32),
+    SetX(u32),
+    Store(u32, u32),
+    Skip(u32),
+    Stop(Verdict),
+}
