@@ -1,1 +1,5 @@
 pub mod Proper
+pub mod Prefix
+pub mod Walk
+pub mod Bounds
+pub mod Examples

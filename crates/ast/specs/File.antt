@@ -1,10 +1,10 @@
 -- The tree file: checks 1, 2, 3, 4 "in that order over the whole file", and the link and the tree of a file that passes them.
 use Prim.Native.Nat.{ℕ, zero, suc, _+_, _*_}
 use mathlib.Core.List.{List, [], _∷_}
-use mathlib.Core.Bool.{Bool, true, false, cond, not, _&&_, _||_}
+use mathlib.Core.Bool.{cond, not, _||_}
 use lib.ListN.{length, getD}
 use lib.Dec.{eqb, ltb}
-use Rattle.error.specs.declared.Refusal.the-variants.{StrangeFile, WrongCount, BadRecord, NotOneTree}
+use Rattle.error.specs.declared.Refusal.the-variants.{StrangeFile, WrongCount, NotOneTree}
 use Rattle.error.specs.Answer.{Out, refused, done, _>>=_}
 use Rattle.bpf.specs.Bytes.{be}
 use Rattle.ast.specs.declared.LinkType.{LinkType}

@@ -1,7 +1,7 @@
 -- One 24-byte record of a tree file: what it may hold (number 3), and the node that it stands for.
-use Prim.Native.Nat.{ℕ, zero, suc, _+_, _-_}
+use Prim.Native.Nat.{ℕ, _+_, _-_}
 use mathlib.Core.List.{List, [], _∷_}
-use mathlib.Core.Bool.{Bool, true, false, cond, not, _&&_, _||_}
+use mathlib.Core.Bool.{Bool, false, cond, not, _&&_, _||_}
 use mathlib.Core.Option.{Option, none, some}
 use lib.ListN.{getD, take}
 use lib.Dec.{eqb, leb}
@@ -41,8 +41,11 @@ abbrev pub dirOf : ℕ → Dir
 dirOf n = getD (SrcOrDst ∷ Src ∷ Dst ∷ SrcAndDst ∷ []) n SrcOrDst
 
 -- "Protocol bytes: 1 Ip, 2 Ip6, .."; n is the small number
+abbrev pub protos : ℕ → List Proto
+protos n = Ip ∷ Ip6 ∷ Arp ∷ Rarp ∷ Tcp ∷ Udp ∷ Icmp ∷ Icmp6 ∷ Igmp ∷ Sctp ∷ Num n ∷ Ip6Proto n ∷ []
+
 abbrev pub protoOf : ℕ → ℕ → Proto
-protoOf p n = getD (Ip ∷ Ip6 ∷ Arp ∷ Rarp ∷ Tcp ∷ Udp ∷ Icmp ∷ Icmp6 ∷ Igmp ∷ Sctp ∷ Num n ∷ Ip6Proto n ∷ []) (p - 1) Ip
+protoOf p n = getD (protos n) (p - 1) Ip
 
 -- "Kinds 15 and 16 also take 0, none."
 abbrev pub portProtoOf : ℕ → ℕ → Option Proto

@@ -1,7 +1,7 @@
 -- Instructions and programs as bytes.
 use Prim.Native.Nat.{ℕ, zero, suc, _+_, _/_, _%_}
 use mathlib.Core.List.{List, [], _∷_, _++_}
-use mathlib.Core.Bool.{Bool, true, false, cond}
+use mathlib.Core.Bool.{cond}
 use lib.ListN.{getD}
 use lib.Dec.{eqb}
 use Rattle.bpf.specs.declared.Insn.{Insn}
@@ -33,3 +33,8 @@ targets i x =
     cond (eqb (x .code % 8) 5)
     (cond (eqb (x .code / 16 % 16) 0) ((i + 1 + x .k) ∷ []) ((i + 1 + x .jt) ∷ (i + 1 + x .jf) ∷ []))
     []
+
+-- every one of these numbers is such
+abbrev pub Each : (ℕ → Type 0) → List ℕ → Type 0
+Each q [] = Unit {0}
+Each q (n ∷ ns) = q n × Each q ns

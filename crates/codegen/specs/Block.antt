@@ -1,7 +1,7 @@
 -- Blocks: instructions in a row whose jumps may still be open. Code falls off a block's end on success; an open jump leaves by
 -- success or by failure, and is a pending `Patch` of the source until it is resolved.
-use Prim.Native.Nat.{ℕ, zero, suc, _+_}
-use mathlib.Core.List.{List, [], _∷_, _++_, map}
+use Prim.Native.Nat.{ℕ, _+_}
+use mathlib.Core.List.{List, [], _∷_, _++_}
 use mathlib.Core.Bool.{Bool, true, false, cond, _||_}
 use lib.ListN.{length}
 use lib.Dec.{ltb}

@@ -1,8 +1,7 @@
 -- A tree's program: codegen.rs `compile` down to its call of `optimize`.
-use Prim.Native.Nat.{ℕ}
 use mathlib.Core.List.{List, [], _∷_, _++_, map}
-use mathlib.Core.Bool.{Bool, cond}
-use Rattle.error.specs.Answer.{Out, refused, done, _>>=_}
+use mathlib.Core.Bool.{cond}
+use Rattle.error.specs.Answer.{Out, done, _>>=_}
 use Rattle.bpf.specs.declared.Insn.{Insn}
 use Rattle.bpf.specs.Program.{insn}
 use Rattle.ast.specs.declared.LinkType.{LinkType}

@@ -1,13 +1,13 @@
 -- The blocks of conditions and of joins: codegen.rs `emit_expr` and what it calls. A test's `Facts` are those of the path that code
 -- falls through; "A test known from the facts emits nothing."
-use Prim.Native.Nat.{ℕ, zero, suc, _+_, _*_, _-_, _^_}
+use Prim.Native.Nat.{ℕ, _+_, _-_, _^_}
 use mathlib.Core.List.{List, [], _∷_, _++_}
 use mathlib.Core.Bool.{Bool, true, false, cond}
 use mathlib.Core.Option.{Option, none, some}
 use lib.ListN.{length}
 use lib.Dec.{eqb, leb}
 use lib.Bits.{bitAnd}
-use Rattle.error.specs.declared.Refusal.the-variants.{KindOnRaw, PortProtocol, EtherOnRaw}
+use Rattle.error.specs.declared.Refusal.the-variants.{KindOnRaw, EtherOnRaw}
 use Rattle.error.specs.Answer.{Out, refused, done, _>>=_}
 use Rattle.bpf.specs.Bytes.{be}
 use Rattle.ast.specs.declared.LinkType.{LinkType}
@@ -25,7 +25,6 @@ use Rattle.codegen.specs.declared.Ports.{Ports}
 use Rattle.codegen.specs.declared.Ports.the-variants.{NotReady, Ready}
 use Rattle.codegen.specs.declared.Facts.{Facts}
 use Rattle.codegen.specs.declared.GuardSet.{GuardSet}
-use Rattle.codegen.specs.declared.Row.{Row}
 use Rattle.codegen.specs.Facts.{contains, holds, readyFor, learnEthertype, learnIp4, learnIp6, withPorts, restored, meet, intersect}
 use Rattle.codegen.specs.Protocols.{rowOf, smallOf, known, l4setFor}
 use Rattle.codegen.specs.Guards.{requiredGuards}

@@ -1,6 +1,5 @@
 -- The guards that a tree requires on every accepting path: codegen.rs `required_guards`, `primitive_guards`.
 use Prim.Native.Nat.{ℕ}
-use mathlib.Core.List.{List}
 use mathlib.Core.Option.{Option}
 use Rattle.error.specs.Answer.{Out, refused, done}
 use Rattle.ast.specs.Tree.{Proto}

@@ -5,7 +5,7 @@ use mathlib.Core.Bool.{Bool, cond}
 use Rattle.error.specs.declared.Refusal.the-variants.{LongFrame}
 use Rattle.error.specs.Answer.{Out, refused, done, _>>=_, numberOf}
 use Rattle.bpf.specs.Bytes.{longFrame}
-use Rattle.ast.specs.File.{Filter, parse}
+use Rattle.ast.specs.File.{parse}
 use Rattle.direct.specs.declared.DirectResult.{DirectResult}
 use Rattle.direct.specs.declared.DirectResult.the-variants.{Is, Refused}
 use Rattle.direct.specs.Reading.{reads}

@@ -1,8 +1,8 @@
 -- The direct reading, from document 01, "The verdict on a frame", with RFC 791 and RFC 8200 for the fields' places. Every place, number
 -- and mask here is this file's own: nothing comes from the generator. "Bytes past the end zero" is `be`.
-use Prim.Native.Nat.{ℕ, zero, suc, _+_, _*_, _-_, _/_, _%_, _^_}
+use Prim.Native.Nat.{ℕ, _+_, _*_, _-_, _/_, _%_, _^_}
 use mathlib.Core.List.{List, [], _∷_}
-use mathlib.Core.Bool.{Bool, true, false, cond, not, _&&_, _||_}
+use mathlib.Core.Bool.{Bool, true, false, not, _&&_, _||_}
 use mathlib.Core.Option.{Option, none, some}
 use lib.Dec.{eqb, leb}
 use lib.Bits.{bitAnd}

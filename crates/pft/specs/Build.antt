@@ -1,7 +1,7 @@
 -- The build: a tree file's program in a lent buffer, or a refusal.
 use Prim.Native.Nat.{ℕ, _*_, _-_}
-use mathlib.Core.List.{List, [], _++_}
-use mathlib.Core.Bool.{Bool, cond}
+use mathlib.Core.List.{List, _++_}
+use mathlib.Core.Bool.{cond}
 use lib.ListN.{length, replicate}
 use lib.Dec.{ltb}
 use Rattle.error.specs.declared.Refusal.{Refusal}
@@ -9,7 +9,7 @@ use Rattle.error.specs.declared.Refusal.the-variants.{ShortBuffer}
 use Rattle.error.specs.Answer.{Out, refused, done, _>>=_, numberOf}
 use Rattle.bpf.specs.declared.Insn.{Insn}
 use Rattle.bpf.specs.Program.{programBytes}
-use Rattle.ast.specs.File.{Filter, parse}
+use Rattle.ast.specs.File.{parse}
 use Rattle.codegen.specs.Compile.{compile}
 use Rattle.pft.specs.declared.BuildResult.{BuildResult}
 use Rattle.pft.specs.declared.BuildResult.the-variants.{Count, Refused}

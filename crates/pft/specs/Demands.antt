@@ -1,7 +1,7 @@
 -- Demands 1 and 3, in the customer's order and words. `proofs/Demands.antt` proves them for every tree file, buffer and frame.
 use Prim.Native.Nat.{ℕ, _+_, _*_, _≤_, _<_}
 use mathlib.Core.Path.{_≡_}
-use mathlib.Core.List.{List, [], _∷_}
+use mathlib.Core.List.{List}
 use mathlib.Core.Logic.{_↔_, _⊎_}
 use mathlib.Core.Bool.{true, false}
 use lib.ListN.{length, replicate, take}
@@ -9,7 +9,7 @@ use Rattle.error.specs.declared.Refusal.{Refusal}
 use Rattle.error.specs.declared.Refusal.the-variants.{ShortBuffer}
 use Rattle.error.specs.Answer.{done, numberOf}
 use Rattle.bpf.specs.Bytes.{AreBytes}
-use Rattle.bpf.specs.Program.{insnAt, targets}
+use Rattle.bpf.specs.Program.{insnAt, targets, Each}
 use Rattle.vm.specs.declared.Verdict.{Verdict}
 use Rattle.vm.specs.declared.Verdict.the-variants.{Accepted, Dropped, Short}
 use Rattle.vm.specs.declared.Outcome.{Outcome}
@@ -21,7 +21,6 @@ use Rattle.ast.specs.File.{header}
 use Rattle.direct.specs.declared.DirectResult.the-variants.{Is}
 use Rattle.direct.specs.Reading.{networkStart}
 use Rattle.direct.specs.Direct.{direct}
-use Rattle.pft.specs.declared.BuildResult.{BuildResult}
 use Rattle.pft.specs.declared.BuildResult.the-variants as Built
 use Rattle.pft.specs.Build.{build}
 
@@ -55,11 +54,6 @@ Gets P F v = HasVerdict v (run P F)
 -- "A program reads past a frame's end, and a read leaves the frame, exactly when the run over it is short."
 abbrev pub ReadsPast : List ℕ → List ℕ → Type 0
 ReadsPast P F = Gets P F Short
-
--- every one of these numbers is such
-abbrev pub Each : (ℕ → Type 0) → List ℕ → Type 0
-Each q [] = Unit {0}
-Each q (x ∷ xs) = q x × Each q xs
 
 -- ---- demand 1, of a tree file T
 

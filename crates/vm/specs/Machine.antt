@@ -2,11 +2,10 @@
 -- The classes, sizes, modes and operations are those of the BPF paper (1993) with the numbers of Linux's filter header.
 use Prim.Native.Nat.{ℕ, zero, suc, _+_, _*_, _-_, _/_, _%_, _^_}
 use mathlib.Core.List.{List, [], _∷_}
-use mathlib.Core.Bool.{Bool, true, false, cond, not, _&&_, _||_}
+use mathlib.Core.Bool.{Bool, cond, not, _||_}
 use lib.ListN.{length, getD, set, replicate}
 use lib.Dec.{ltb, leb, eqb}
 use lib.Bits.{bitAnd, bitOr, bitXor}
-use Rattle.error.specs.declared.Refusal.{Refusal}
 use Rattle.error.specs.declared.Refusal.the-variants.{LongFrame, OddProgram}
 use Rattle.error.specs.Answer.{numberOf}
 use Rattle.bpf.specs.declared.Insn.{Insn}
@@ -88,7 +87,7 @@ jmp op i a v =
     ∷ Skip (cond (eqb a v) (i .jt) (i .jf))
     ∷ Skip (cond (ltb v a) (i .jt) (i .jf))
     ∷ Skip (cond (leb v a) (i .jt) (i .jf))
-    ∷ Skip (cond (eqb (bitAnd a v) 0) (i .jf) (i .jt))
+    ∷ Skip (cond (not (eqb (bitAnd a v) 0)) (i .jt) (i .jf))
     ∷ [])
 
 -- RET: a value other than 0 accepts

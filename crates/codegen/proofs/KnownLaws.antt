@@ -1,0 +1,101 @@
+-- What holds of a value that is known, and of a set that ports are ready for: the ways to put facts and guards together keep it.
+use Prim.Native.Nat.{ℕ}
+use mathlib.Core.Path.{_≡_, refl, ap}
+use mathlib.Core.Bool.{true, false≢true}
+use lib.Dec.{eqb}
+use borrow.Author.Tests.{eqb-true}
+use Rattle.error.proofs.All.{cases, either}
+use Rattle.codegen.specs.declared.L4Set.{L4Set}
+use Rattle.codegen.specs.declared.L4Set.the-variants.{One, TcpOrUdp}
+use Rattle.codegen.specs.declared.Known.{Known}
+use Rattle.codegen.specs.declared.Known.the-variants.{Unknown, Is}
+use Rattle.codegen.specs.declared.Ports.{Ports}
+use Rattle.codegen.specs.declared.Ports.the-variants.{NotReady, Ready}
+use Rattle.codegen.specs.declared.GuardSet.{GuardSet}
+use Rattle.codegen.specs.Facts.{sameSet, fill, holds, both, or, bothPorts, orPorts, union, intersect}
+
+abbrev pub Says : Known → (ℕ → Type 0) → Type 0
+Says Unknown q = Unit {0}
+Says (Is a) q = q a
+
+abbrev pub SaysPorts : Ports → (L4Set → Type 0) → Type 0
+SaysPorts NotReady q = Unit {0}
+SaysPorts (Ready a) q = q a
+
+pub says-fill : (k : Known) (q : ℕ → Type 0) (a : ℕ) → Says k q → q a → Says (fill k a) q
+says-fill Unknown q a h e = e
+says-fill (Is b) q a h e = h
+
+pub says-holds : (k : Known) (v : ℕ) (q : ℕ → Type 0) → Says k q → holds k v ≡ true → q v
+says-holds Unknown v q h e = absurd (false≢true e)
+says-holds (Is w) v q h e = rw (← (eqb-true w v e)) h
+
+says-or : (k l : Known) (q : ℕ → Type 0) → Says k q → Says l q → Says (or k l) q
+says-or Unknown l q h j = j
+says-or (Is a) l q h j = h
+
+pub says-left : (k l : Known) (q : ℕ → Type 0) → Says k q → Says (both k l) q
+says-left Unknown l q h = tt
+says-left (Is a) Unknown q h = tt
+says-left (Is a) (Is b) q h = either (λ k. Says k q) (eqb a b) h tt
+
+pub says-right : (k l : Known) (q : ℕ → Type 0) → Says l q → Says (both k l) q
+says-right Unknown l q h = tt
+says-right (Is a) Unknown q h = tt
+says-right (Is a) (Is b) q h = cases (λ k. Says k q) (eqb a b) (λ e. rw (eqb-true a b e) h) (λ e. tt)
+
+pub sameSet-eq : (a b : L4Set) → sameSet a b ≡ true → a ≡ b
+sameSet-eq (One p) (One q) e = ap One (eqb-true p q e)
+sameSet-eq (One p) TcpOrUdp e = absurd (false≢true e)
+sameSet-eq TcpOrUdp (One q) e = absurd (false≢true e)
+sameSet-eq TcpOrUdp TcpOrUdp e = refl
+
+ports-or : (k l : Ports) (q : L4Set → Type 0) → SaysPorts k q → SaysPorts l q → SaysPorts (orPorts k l) q
+ports-or NotReady l q h j = j
+ports-or (Ready a) l q h j = h
+
+ports-left : (k l : Ports) (q : L4Set → Type 0) → SaysPorts k q → SaysPorts (bothPorts k l) q
+ports-left NotReady l q h = tt
+ports-left (Ready a) NotReady q h = tt
+ports-left (Ready a) (Ready b) q h = either (λ k. SaysPorts k q) (sameSet a b) h tt
+
+ports-right : (k l : Ports) (q : L4Set → Type 0) → SaysPorts l q → SaysPorts (bothPorts k l) q
+ports-right NotReady l q h = tt
+ports-right (Ready a) NotReady q h = tt
+ports-right (Ready a) (Ready b) q h = cases (λ k. SaysPorts k q) (sameSet a b) (λ e. rw (sameSet-eq a b e) h) (λ e. tt)
+
+-- ---- guards
+
+pub record GuardsSay (e p n : ℕ → Type 0) (s : L4Set → Type 0) (g : GuardSet) : Type 0 where
+  pub ethertype : Says (g .ethertype) e
+  pub ip4 : Says (g .«ip4_proto») p
+  pub ip6 : Says (g .«ip6_nh») n
+  pub ports : SaysPorts (g .«port_prereqs») s
+
+module _ {e p n : ℕ → Type 0} {s : L4Set → Type 0} (g h : GuardSet) where
+  pub union-says : GuardsSay e p n s g → GuardsSay e p n s h → GuardsSay e p n s (union g h)
+  union-says m k =
+      record {
+        ethertype = says-or (g .ethertype) (h .ethertype) e (m .ethertype) (k .ethertype);
+        ip4 = says-or (g .«ip4_proto») (h .«ip4_proto») p (m .ip4) (k .ip4);
+        ip6 = says-or (g .«ip6_nh») (h .«ip6_nh») n (m .ip6) (k .ip6);
+        ports = ports-or (g .«port_prereqs») (h .«port_prereqs») s (m .ports) (k .ports);
+      }
+
+  pub intersect-left : GuardsSay e p n s g → GuardsSay e p n s (intersect g h)
+  intersect-left m =
+      record {
+        ethertype = says-left (g .ethertype) (h .ethertype) e (m .ethertype);
+        ip4 = says-left (g .«ip4_proto») (h .«ip4_proto») p (m .ip4);
+        ip6 = says-left (g .«ip6_nh») (h .«ip6_nh») n (m .ip6);
+        ports = ports-left (g .«port_prereqs») (h .«port_prereqs») s (m .ports);
+      }
+
+  pub intersect-right : GuardsSay e p n s h → GuardsSay e p n s (intersect g h)
+  intersect-right m =
+      record {
+        ethertype = says-right (g .ethertype) (h .ethertype) e (m .ethertype);
+        ip4 = says-right (g .«ip4_proto») (h .«ip4_proto») p (m .ip4);
+        ip6 = says-right (g .«ip6_nh») (h .«ip6_nh») n (m .ip6);
+        ports = ports-right (g .«port_prereqs») (h .«port_prereqs») s (m .ports);
+      }

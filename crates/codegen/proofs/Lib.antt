@@ -1,0 +1,15 @@
+pub mod Semantics
+pub mod Agree
+pub mod Prefix
+pub mod Near
+pub mod Laws
+pub mod KnownLaws
+pub mod FactsHold
+pub mod Numbers
+pub mod Checks
+pub mod Prologue
+pub mod Conditions
+pub mod Joins
+pub mod Tells
+pub mod Shape
+pub mod Sound
