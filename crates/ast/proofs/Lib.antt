@@ -3,3 +3,4 @@ pub mod Prefix
 pub mod Walk
 pub mod Bounds
 pub mod Examples
+pub mod Refusals

@@ -1,7 +1,7 @@
 -- The tree file: checks 1, 2, 3, 4 "in that order over the whole file", and the link and the tree of a file that passes them.
 use Prim.Native.Nat.{ℕ, zero, suc, _+_, _*_}
 use mathlib.Core.List.{List, [], _∷_}
-use mathlib.Core.Bool.{cond, not, _||_}
+use mathlib.Core.Bool.{Bool, cond, not, _||_}
 use lib.ListN.{length, getD}
 use lib.Dec.{eqb, ltb}
 use Rattle.error.specs.declared.Refusal.the-variants.{StrangeFile, WrongCount, NotOneTree}
@@ -17,16 +17,22 @@ abbrev pub linkOf : ℕ → Out LinkType
 linkOf b = getD (refused StrangeFile ∷ done Ethernet ∷ done RawIp ∷ done LinuxSll ∷ []) b (refused StrangeFile)
 
 -- number 1, "under 8 bytes, or mark, version or link differs": the three letters `PFT`, a 16-bit version 1, a link byte
+abbrev pub strange : List ℕ → Bool
+strange s = ltb (length s) 8 || (not (eqb (be 3 0 s) 0x504654) || not (eqb (be 2 3 s) 1))
+
 unfoldable pub header : List ℕ → Out LinkType
-header s = cond (ltb (length s) 8 || (not (eqb (be 3 0 s) 0x504654) || not (eqb (be 2 3 s) 1))) (refused StrangeFile) (linkOf (be 1 5 s))
+header s = cond (strange s) (refused StrangeFile) (linkOf (be 1 5 s))
 
 -- "a 16-bit record count"
 abbrev pub countOf : List ℕ → ℕ
 countOf s = be 2 6 s
 
 -- number 2, "count 0 or over 128, or length not 8 + 24 × count"
+abbrev pub wrong : List ℕ → Bool
+wrong s = eqb (countOf s) 0 || (ltb 128 (countOf s) || not (eqb (length s) (8 + 24 * countOf s)))
+
 unfoldable pub count : List ℕ → Out ℕ
-count s = cond (eqb (countOf s) 0 || (ltb 128 (countOf s) || not (eqb (length s) (8 + 24 * countOf s)))) (refused WrongCount) (done (countOf s))
+count s = cond (wrong s) (refused WrongCount) (done (countOf s))
 
 -- number 3 over n records from a place on, or their nodes
 unfoldable pub nodesAt : ℕ → ℕ → List ℕ → Out (List Node)

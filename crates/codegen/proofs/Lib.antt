@@ -13,3 +13,4 @@ pub mod Joins
 pub mod Tells
 pub mod Shape
 pub mod Sound
+pub mod Refusals

@@ -46,3 +46,7 @@ turned-bind q (done a) k h j = j a
 
 pub turned-cond : {A : Type 0} (q : Refusal → Type 0) (b : Bool) (o o′ : Out A) → Turned q o → Turned q o′ → Turned q (cond b o o′)
 turned-cond q b o o′ h j = either (Turned q) b h j
+
+pub turned-map : {A : Type 0} (q s : Refusal → Type 0) (o : Out A) → ((r : Refusal) → q r → s r) → Turned q o → Turned s o
+turned-map q s (refused r) h j = h r j
+turned-map q s (done a) h j = tt

@@ -1,7 +1,7 @@
 -- The build: a tree file's program in a lent buffer, or a refusal.
 use Prim.Native.Nat.{ℕ, _*_, _-_}
 use mathlib.Core.List.{List, _++_}
-use mathlib.Core.Bool.{cond}
+use mathlib.Core.Bool.{Bool, cond}
 use lib.ListN.{length, replicate}
 use lib.Dec.{ltb}
 use Rattle.error.specs.declared.Refusal.{Refusal}
@@ -27,10 +27,14 @@ rejected lent r = record { answer = Refused r; buffer = replicate lent 0 }
 abbrev pub placed : ℕ → List Insn → Built
 placed lent p = record { answer = Count (length p); buffer = programBytes p ++ replicate (lent - 8 * length p) 0 }
 
--- number 9, "fewer than 8 × instructions bytes lent"; "9 is last"
+-- number 9, "fewer than 8 × instructions bytes lent"
+abbrev pub tooShort : ℕ → List Insn → Bool
+tooShort lent p = ltb lent (8 * length p)
+
+-- "9 is last"
 abbrev pub into : ℕ → Out (List Insn) → Built
 into lent (refused r) = rejected lent r
-into lent (done p) = cond (ltb lent (8 * length p)) (rejected lent ShortBuffer) (placed lent p)
+into lent (done p) = cond (tooShort lent p) (rejected lent ShortBuffer) (placed lent p)
 
 -- a file's program: "1, 2, 3, 4 come in that order over the whole file. Of 5 to 8 the one the source meets first is given"
 unfoldable pub program : List ℕ → Out (List Insn)

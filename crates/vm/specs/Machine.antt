@@ -115,7 +115,8 @@ effect f m i a x =
 abbrev pub ended : Verdict → ℕ → Outcome
 ended v t = record { verdict = v; steps = t }
 
--- the run after an effect, t instructions fetched: `on` goes on over the instructions to skip, with A, X and the scratch words
+-- the run after an effect, t instructions fetched: `on` goes on over the instructions to skip, with A, X and the scratch words. A store
+-- beyond the 16 words is broken
 abbrev pub after : (ℕ → ℕ → ℕ → List ℕ → Outcome) → Effect → ℕ → ℕ → ℕ → List ℕ → Outcome
 after on (SetA v) t a x m = on 0 v x m
 after on (SetX v) t a x m = on 0 a v m
@@ -149,7 +150,18 @@ abbrev pub refusalOf : RunResult → ℕ
 refusalOf (Ran o) = 0
 refusalOf (Refused r) = numberOf r
 
--- "a refused run has no verdict and 0 steps"
+-- accepted, dropped, short, broken: 1 to 4
+abbrev pub numberOfVerdict : Verdict → ℕ
+numberOfVerdict Accepted = 1
+numberOfVerdict Dropped = 2
+numberOfVerdict Short = 3
+numberOfVerdict Broken = 4
+
+-- "a refused run has no verdict and 0 steps": 0 for no verdict
+abbrev pub verdictOf : RunResult → ℕ
+verdictOf (Ran o) = numberOfVerdict (o .verdict)
+verdictOf (Refused r) = 0
+
 abbrev pub stepsOf : RunResult → ℕ
 stepsOf (Ran o) = o .steps
 stepsOf (Refused r) = 0

@@ -1,0 +1,4 @@
+pub mod Examples
+pub mod Counter
+pub mod Steps
+pub mod Bytes
