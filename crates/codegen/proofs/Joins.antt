@@ -20,11 +20,11 @@ use Rattle.codegen.specs.declared.Ports.{Ports}
 use Rattle.codegen.specs.declared.Ports.the-variants.{NotReady, Ready}
 use Rattle.codegen.specs.declared.Facts.{Facts}
 use Rattle.codegen.specs.declared.GuardSet.{GuardSet}
-use Rattle.codegen.specs.Facts.{contains, restored, noGuards, intersect}
+use Rattle.codegen.specs.Facts.{contains, noGuards, intersect}
 use Rattle.codegen.specs.Protocols.{l4setFor}
 use Rattle.codegen.specs.Guards.{guards, setOf, primitiveGuards, requiredGuards}
 use Rattle.codegen.specs.Block.{Block, settle, turn, otherwise, resolved, far, writesX, success}
-use Rattle.codegen.specs.Emit.{isRaw, Code, code, emitEthertype, emitIp4L4, emitIp6L4, hoistKnown, hoistPorts, orHoist, emit}
+use Rattle.codegen.specs.Emit.{isRaw, Code, code, emitEthertype, emitIp4L4, emitIp6L4, hoistKnown, hoistPorts, orHoist, emit, restoredAfter}
 use Rattle.codegen.proofs.Laws.{Never, Maybe, seq, settled, else, negated, equal, allow, learning, known, kept}
 use Rattle.codegen.proofs.KnownLaws.{Says, SaysPorts, GuardsSay, union-says, intersect-left, intersect-right}
 use Rattle.codegen.proofs.FactsHold.{and-left, and-right, and-both, or-cases, Passes, Raw, raw-both, hasPorts, headerLength, Holds, holds-meet-left, holds-meet-right, holds-restored}
@@ -192,13 +192,13 @@ module _ (L : LinkType) (f : List ℕ) where
       (hoist-emits (intersect (requiredGuards l) (requiredGuards r)) g raw)
       (λ a ha. all-bind (Emits L f Maybe (a .facts) (reads L f l)) _ (emit L l (a .facts)) _ (tree-emits z l (h .0) (a .facts) (ha .raw))
       (λ b hb. resolved-then _ (otherwise (b .block)) _
-      (λ e. all-bind (Emits L f Maybe (restored (writesX (b .block)) (a .facts)) (reads L f r)) _ (emit L r (restored (writesX (b .block)) (a .facts))) _
-      (tree-emits z r (h .1) (restored (writesX (b .block)) (a .facts)) (ha .raw))
+      (λ e. all-bind (Emits L f Maybe (restoredAfter (b .block) (a .facts)) (reads L f r)) _ (emit L r (restoredAfter (b .block) (a .facts))) _
+      (tree-emits z r (h .1) (restoredAfter (b .block) (a .facts)) (ha .raw))
       (λ c hc.
       record {
         decides = equal (absorb (wanted (intersect (requiredGuards l) (requiredGuards r))) (reads L f l || reads L f r) (λ t. meets-wanted (intersect (requiredGuards l) (requiredGuards r)) (tree-meets (Or l r) t)))
             (seq (ha .decides) (else (hb .decides)
-            (kept f (b .block) (Holds L f (a .facts)) (Holds L f (restored (writesX (b .block)) (a .facts))) (λ x y k s. holds-restored L f (writesX (b .block)) (a .facts) x y k s))
+            (kept f (b .block) (Holds L f (a .facts)) (Holds L f (restoredAfter (b .block) (a .facts))) (λ x y k s. holds-restored L f (writesX (b .block)) (a .facts) x y k s))
             (λ v x k. holds-meet-left L f (b .facts) (c .facts) x k)
             (learning (λ v x t k. holds-meet-right L f (b .facts) (c .facts) x k) (hc .decides))));
         raw = raw-both L (b .facts .ethertype) (c .facts .ethertype) (hb .raw) (hc .raw);
@@ -209,6 +209,6 @@ module _ (L : LinkType) (f : List ℕ) where
       (λ e.
       record {
         decides = allow (negated (hb .decides)
-            (kept f (b .block) (Holds L f g) (Holds L f (restored (writesX (b .block)) g)) (λ x y k s. holds-restored L f (writesX (b .block)) g x y k s)));
+            (kept f (b .block) (Holds L f g) (Holds L f (restoredAfter (b .block) g)) (λ x y k s. holds-restored L f (writesX (b .block)) g x y k s)));
         raw = raw;
       }))

@@ -24,7 +24,7 @@ SaysPorts (Ready a) q = q a
 
 pub says-fill : (k : Known) (q : ℕ → Type 0) (a : ℕ) → Says k q → q a → Says (fill k a) q
 says-fill Unknown q a h e = e
-says-fill (Is b) q a h e = h
+says-fill (Is b) q a h e = search h
 
 pub says-holds : (k : Known) (v : ℕ) (q : ℕ → Type 0) → Says k q → holds k v ≡ true → q v
 says-holds Unknown v q h e = absurd (false≢true e)

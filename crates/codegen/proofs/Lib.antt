@@ -14,3 +14,4 @@ pub mod Tells
 pub mod Shape
 pub mod Sound
 pub mod Refusals
+pub mod Examples

@@ -19,12 +19,11 @@ use Rattle.codegen.specs.declared.Ports.{Ports}
 use Rattle.codegen.specs.declared.Ports.the-variants.{NotReady, Ready}
 use Rattle.codegen.specs.declared.Facts.{Facts}
 use Rattle.codegen.specs.declared.GuardSet.{GuardSet}
-use Rattle.codegen.specs.Facts.{holds, restored, intersect}
+use Rattle.codegen.specs.Facts.{holds}
 use Rattle.codegen.specs.Protocols.{rowOf, smallOf, known, l4setFor}
-use Rattle.codegen.specs.Guards.{requiredGuards}
-use Rattle.codegen.specs.Block.{Block, settle, turn, otherwise, far, resolved, writesX, success}
+use Rattle.codegen.specs.Block.{Block, far, resolved}
 use Rattle.codegen.specs.Emit.{etherProtoOffset, isRaw, Code, code, ethertypeAt, emitEthertype, guarded, emitL4, emitIp4L4, emitIp6L4, emitRow, ported, ether, emitPrimitive, hoistKnown, hoistPorts, orHoist, emit}
-use Rattle.codegen.specs.Compile.{entryFacts, finished, compile}
+use Rattle.codegen.specs.Compile.{entryFacts, compile}
 
 abbrev pub Late : Refusal → Type 0
 Late r = (5 ≤ numberOf r) × (numberOf r ≤ 8)
@@ -131,20 +130,14 @@ module _ (L : LinkType) where
   tree-turned (Leaf p) g = condition-turned p g
   tree-turned (And l r) g =
       turned-bind Late (emit L l g) _ (tree-turned l g)
-      (λ b. turned-bind Late (resolved (settle success 0 (b .block))) _ (resolved-turned _)
-      (λ b′. turned-bind Late (emit L r (b .facts)) _ (tree-turned r (b .facts)) (λ c. tt)))
+      (λ b. turned-bind Late (resolved _) _ (resolved-turned _) (λ b′. turned-bind Late (emit L r _) _ (tree-turned r _) (λ c. tt)))
   tree-turned (Or l r) g =
-      let q = intersect (requiredGuards l) (requiredGuards r) in
-      turned-bind Late (orHoist L q g) _ (hoist-turned q g)
-      (λ h. turned-bind Late (emit L l (h .facts)) _ (tree-turned l (h .facts))
-      (λ b. turned-bind Late (resolved (otherwise (b .block))) _ (resolved-turned _)
-      (λ b′. let k = restored (writesX (b .block)) (h .facts) in turned-bind Late (emit L r k) _ (tree-turned r k) (λ c. tt))))
-  tree-turned (Not t) g =
-      turned-bind Late (emit L t g) _ (tree-turned t g)
-      (λ b. turned-bind Late (resolved (turn (otherwise (b .block)))) _ (resolved-turned _) (λ b′. tt))
+      turned-bind Late (orHoist L _ g) _ (hoist-turned _ g)
+      (λ h. turned-bind Late (emit L l _) _ (tree-turned l _)
+      (λ b. turned-bind Late (resolved _) _ (resolved-turned _) (λ b′. turned-bind Late (emit L r _) _ (tree-turned r _) (λ c. tt))))
+  tree-turned (Not t) g = turned-bind Late (emit L t g) _ (tree-turned t g) (λ b. turned-bind Late (resolved _) _ (resolved-turned _) (λ b′. tt))
 
 pub compile-turned : (L : LinkType) (t : Expr) → Turned (λ r. (5 ≤ numberOf r) × (numberOf r ≤ 8)) (compile L t)
 unfolding compile
 compile-turned L t =
-    turned-bind Late (emit L t (entryFacts L)) _ (tree-turned L t (entryFacts L))
-    (λ c. turned-bind Late (resolved (finished (c .block))) _ (resolved-turned _) (λ b. tt))
+    turned-bind Late (emit L t (entryFacts L)) _ (tree-turned L t (entryFacts L)) (λ c. turned-bind Late (resolved _) _ (resolved-turned _) (λ b. tt))

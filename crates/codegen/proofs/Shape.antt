@@ -30,12 +30,12 @@ use Rattle.codegen.specs.declared.Ports.{Ports}
 use Rattle.codegen.specs.declared.Ports.the-variants.{NotReady, Ready}
 use Rattle.codegen.specs.declared.Facts.{Facts}
 use Rattle.codegen.specs.declared.GuardSet.{GuardSet}
-use Rattle.codegen.specs.Facts.{contains, holds, readyFor, learnIp4, learnIp6, restored, intersect}
+use Rattle.codegen.specs.Facts.{contains, holds, readyFor, learnIp4, learnIp6, intersect}
 use Rattle.codegen.specs.Protocols.{rowOf, smallOf, known, l4setFor}
 use Rattle.codegen.specs.Guards.{guards, setOf, primitiveGuards, requiredGuards}
 use Rattle.codegen.specs.Block.{half, jeq, Side, success, failure, leave, jt, test}
-use Rattle.codegen.specs.Block.{Block, settle, turn, otherwise, writesX}
-use Rattle.codegen.specs.Emit.{netOffset, etherProtoOffset, isRaw, Code, code, need, check, checkLoads, checkBlocks, checkIp6Addr, mask16, checkNet6, checkRange, checkMac, l4SetCheck, l4Check, header4, header6, fork, dualPath, Prologue, version, dual, emitEthertype, guarded, emitL4, emitIp4L4, emitIp6L4, emitRow, portPrereqs, ported, ether, emitPrimitive, hoistKnown, hoistPorts, orHoist, emit}
+use Rattle.codegen.specs.Block.{Block, settle, turn, otherwise}
+use Rattle.codegen.specs.Emit.{netOffset, etherProtoOffset, isRaw, Code, code, need, check, checkLoads, checkBlocks, checkIp6Addr, mask16, checkNet6, checkRange, checkMac, l4SetCheck, l4Check, header4, header6, fork, dualPath, Prologue, version, dual, emitEthertype, guarded, emitL4, emitIp4L4, emitIp6L4, emitRow, portPrereqs, ported, ether, emitPrimitive, hoistKnown, hoistPorts, orHoist, emit, restoredAfter}
 use Rattle.codegen.proofs.Semantics.{length-settle}
 use Rattle.codegen.proofs.KnownLaws.{Says, SaysPorts, GuardsSay, union-says, intersect-left}
 use Rattle.codegen.proofs.Joins.{resolved-then}
@@ -321,7 +321,7 @@ module _ (L : LinkType) where
       all-bind (Fits L 24) _ (orHoist L q g) _ (hoist-shape q g (guards-small (Or l r) h))
       (λ a ha. all-bind (Fits L (weight l)) _ (emit L l (a .facts)) _ (tree-shape l (a .facts) (h .0))
       (λ b hb. resolved-then _ (otherwise (b .block)) _
-      (λ e. let k = restored (writesX (b .block)) (a .facts) in
+      (λ e. let k = restoredAfter (b .block) (a .facts) in
       all-bind (Fits L (weight r)) _ (emit L r k) _ (tree-shape r k (h .1)) (λ c hc. joined ha (joined (others hb) hc)))))
   tree-shape (Not t) g h =
       all-bind (Fits L (weight t)) _ (emit L t g) _ (tree-shape t g h)

@@ -56,6 +56,10 @@ pub record Code : Type 0 where
 abbrev pub code : Block → Facts → Code
 code b g = record { block = b; facts = g }
 
+-- entry facts restored after a block: "without ports ready if the left wrote X"
+abbrev pub restoredAfter : Block → Facts → Facts
+restoredAfter b g = restored (writesX b) g
+
 -- ---- tests
 
 -- `jeq_k` whose jf fails
@@ -276,9 +280,9 @@ module _ (L : LinkType) where
     h ← orHoist (intersect (requiredGuards l) (requiredGuards r)) g
     b ← emit l (h .facts)
     b′ ← resolved (otherwise (b .block))
-    c ← emit r (restored (writesX (b .block)) (h .facts))
+    c ← emit r (restoredAfter (b .block) (h .facts))
     done (code (h .block ++ (b′ ++ c .block)) (meet (b .facts) (c .facts)))
   emit (Not t) g = do
     b ← emit t g
     b′ ← resolved (turn (otherwise (b .block)))
-    done (code b′ (restored (writesX (b .block)) g))
+    done (code b′ (restoredAfter (b .block) g))
