@@ -20,7 +20,7 @@ use Rattle.codegen.specs.Guards.{primitiveGuards, requiredGuards}
 use Rattle.codegen.specs.Block.{settle, turn, otherwise, far, writesX, assemble}
 use Rattle.codegen.specs.Emit as E
 use Rattle.codegen.specs.Compile.{finished, compile}
-use Rattle.pft.specs.Build.{Built, program, build, refusalOf, countOf}
+use Rattle.pft.specs.Build.{Built, program, build, listing, refusalOf, countOf}
 
 -- ---- tree files
 
@@ -86,7 +86,7 @@ data Fact : Type 0 where
   count : ℕ → Fact
   jt jf ja : ℕ → ℕ → Fact  -- a field's value at an index
   ran : List ℕ → Verdict → ℕ → Fact  -- the verdict and the steps on a frame
-  lists : List ℕ → Fact  -- the numbers of the listing: "the count, then code, jt, jf, k per line"
+  lists : List (List ℕ) → Fact  -- the lines of the listing
 
 -- a run's answer as numbers: refusal, verdict and steps
 abbrev outcome : RunResult → List ℕ
@@ -98,9 +98,11 @@ sameNumbers [] (m ∷ ms) = false
 sameNumbers (n ∷ ns) [] = false
 sameNumbers (n ∷ ns) (m ∷ ms) = eqb n m && sameNumbers ns ms
 
-fields : List Insn → List ℕ
-fields [] = []
-fields (i ∷ p) = i .code ∷ i .jt ∷ i .jf ∷ i .k ∷ fields p
+sameLines : List (List ℕ) → List (List ℕ) → Bool
+sameLines [] [] = true
+sameLines [] (m ∷ ms) = false
+sameLines (n ∷ ns) [] = false
+sameLines (n ∷ ns) (m ∷ ms) = sameNumbers n m && sameLines ns ms
 
 -- the count, and the instruction at an index of the buffer
 abbrev counted : Built → ℕ
@@ -116,7 +118,7 @@ holds (jt v n) b = eqb v (at b n .jt)
 holds (jf v n) b = eqb v (at b n .jf)
 holds (ja v n) b = eqb v (at b n .k) && eqb (at b n .code) 0x05
 holds (ran f v n) b = sameNumbers (outcome (run (take (8 * counted b) (b .buffer)) f)) (outcome (Ran (ended v n)))
-holds (lists ns) b = sameNumbers ns (counted b ∷ fields (insnsAt (counted b) 0 (b .buffer)))
+holds (lists ns) b = sameLines ns (listing (insnsAt (counted b) 0 (b .buffer)))
 
 record Row : Type 0 where
   tree : List ℕ
@@ -136,7 +138,16 @@ test (r ∷ rs) = all (r .facts) (build (r .tree) lent) && test rs
 -- the listing's ★, and the ★ lines in the sheet's order
 sheet : List Row
 sheet =
-    row (ethernet (not Ip)) (lists (5 ∷ 40 ∷ 0 ∷ 0 ∷ 12 ∷ 21 ∷ 0 ∷ 1 ∷ 2048 ∷ 5 ∷ 0 ∷ 0 ∷ 1 ∷ 6 ∷ 0 ∷ 0 ∷ 4294967295 ∷ 6 ∷ 0 ∷ 0 ∷ 0 ∷ []) ∷ [])
+    row (ethernet (not Ip))
+    (lists
+    ((5 ∷ [])
+    ∷ (40 ∷ 0 ∷ 0 ∷ 12 ∷ [])
+    ∷ (21 ∷ 0 ∷ 1 ∷ 2048 ∷ [])
+    ∷ (5 ∷ 0 ∷ 0 ∷ 1 ∷ [])
+    ∷ (6 ∷ 0 ∷ 0 ∷ 4294967295 ∷ [])
+    ∷ (6 ∷ 0 ∷ 0 ∷ 0 ∷ [])
+    ∷ [])
+    ∷ [])
     ∷ row (rawIp Ip) (count 2 ∷ [])
     ∷ row (ethernet Ip)
     (count 4 ∷ jf 1 1 ∷ ran (replicate 13 0) Short 1 ∷ ran (replicate 12 0 ++ (8 ∷ 0 ∷ [])) Accepted 3 ∷ [])
@@ -151,5 +162,5 @@ sheet =
     ∷ []
 
 sheet-holds : T (test sheet)
-unfolding test sheet fields sameNumbers build program insnBytes programBytes insnAt insnsAt le leAt run compile finished assemble settle turn otherwise far writesX primitiveGuards requiredGuards E.checkLoads E.checkBlocks E.checkIp6Addr E.checkNet6 E.checkRange E.checkMac E.l4SetCheck E.l4Check E.header4 E.header6 E.fork E.dualPath E.emitEthertype E.guarded E.emitL4 E.portPrereqs E.ported E.ether E.emitPrimitive E.orHoist E.emit VM.load VM.sizedLoad VM.scratch VM.ld VM.ldx VM.alu VM.jmp VM.effect VM.exec VM.inner recordAt good nodeBy F.header F.count F.nodesAt F.grow F.treesOf F.parse be bytesAt segmentsAt
+unfolding test sheet sameNumbers sameLines listing build program insnBytes programBytes insnAt insnsAt le leAt run compile finished assemble settle turn otherwise far writesX primitiveGuards requiredGuards E.checkLoads E.checkBlocks E.checkIp6Addr E.checkNet6 E.checkRange E.checkMac E.l4SetCheck E.l4Check E.header4 E.header6 E.fork E.dualPath E.emitEthertype E.guarded E.emitL4 E.portPrereqs E.ported E.ether E.emitPrimitive E.orHoist E.emit VM.load VM.sizedLoad VM.scratch VM.ld VM.ldx VM.alu VM.jmp VM.effect VM.exec VM.inner recordAt good nodeBy F.header F.count F.nodesAt F.grow F.treesOf F.parse be bytesAt segmentsAt
 sheet-holds = tt

@@ -1,6 +1,6 @@
 -- The build: a tree file's program in a lent buffer, or a refusal.
 use Prim.Native.Nat.{ℕ, _*_, _-_}
-use mathlib.Core.List.{List, _++_}
+use mathlib.Core.List.{List, [], _∷_, _++_, map}
 use mathlib.Core.Bool.{Bool, cond}
 use lib.ListN.{length, replicate}
 use lib.Dec.{ltb}
@@ -43,6 +43,12 @@ program tree = parse tree >>= λ t. compile (t .link) (t .tree)
 -- the build of a file into a buffer of so many bytes
 unfoldable pub build : List ℕ → ℕ → Built
 build tree lent = into lent (program tree)
+
+-- ---- the listing `pft-list`
+
+-- a program's lines: "the count, then code, jt, jf, k per line"
+unfoldable pub listing : List Insn → List (List ℕ)
+listing p = (length p ∷ []) ∷ map (λ i. i .code ∷ i .jt ∷ i .jf ∷ i .k ∷ []) p
 
 -- ---- the values of the answer
 

@@ -2,7 +2,8 @@
 -- The classes, sizes, modes and operations are those of the BPF paper (1993) with the numbers of Linux's filter header.
 use Prim.Native.Nat.{ℕ, zero, suc, _+_, _*_, _-_, _/_, _%_, _^_}
 use mathlib.Core.List.{List, [], _∷_}
-use mathlib.Core.Bool.{Bool, cond, not, _||_}
+use mathlib.Core.Bool.{false, true, Bool, cond, not, _||_}
+use mathlib.Core.Option.{Option, none, some}
 use lib.ListN.{length, getD, set, replicate}
 use lib.Dec.{ltb, leb, eqb}
 use lib.Bits.{bitAnd, bitOr, bitXor}
@@ -149,6 +150,13 @@ run p f = cond (oddProgram p) (Refused OddProgram) (cond (longFrame f) (Refused 
 abbrev pub refusalOf : RunResult → ℕ
 refusalOf (Ran o) = 0
 refusalOf (Refused r) = numberOf r
+
+-- what `inner` of vm.rs answers: "Rust's None is short or broken."
+abbrev pub innerOf : Verdict → Option Bool
+innerOf Accepted = some true
+innerOf Dropped = some false
+innerOf Short = none
+innerOf Broken = none
 
 -- accepted, dropped, short, broken: 1 to 4
 abbrev pub numberOfVerdict : Verdict → ℕ
