@@ -13,7 +13,7 @@ use Rattle.ast.specs.declared.Dir.the-variants.{SrcOrDst, Src, Dst, SrcA
 use Rattle.ast.specs.Tree.{Proto, Ip, Ip6, Arp, Rarp, Tcp, Udp, Icmp, Icmp6, Igmp, Sctp, Num, Ip6Proto}
 use Rattle.ast.specs.Tree.{Primitive, Protocol, Host4, Host6, Net, Net6, Port, PortRange, EtherHost, EtherProto, EtherMulticast, IpBroadcast, IpMulticast, Ip6Multicast, IpProtoChain, Ip6ProtoChain}
 
--- "Record: byte 0 kind; byte 1 direction; byte 2 protocol; byte 3 small number; bytes 4-5 A; 6-7 B; 8-23 address."
+-- "Record: byte 0 kind; byte 1 direction (..); byte 2 protocol; byte 3 small number; bytes 4-5 A; 6-7 B; 8-23 address."
 pub record Record : Type 0 where
   pub kind : ℕ
   pub direction : ℕ
@@ -115,7 +115,7 @@ abbrev pub numbered : ℕ → Bool
 numbered p = eqb p 11 || eqb p 12
 
 -- a record of this kind is not bad: its direction and its protocol are known, only kinds 15 and 16 take the protocol 0, and
--- "bytes a kind doesn't use are zero"
+-- "Bytes a kind doesn't use are zero."
 unfoldable pub good : Kind → Record → Bool
 good k r =
     leb (r .direction) 3

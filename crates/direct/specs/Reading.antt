@@ -1,5 +1,5 @@
 -- The direct reading, from document 01, "The verdict on a frame", with RFC 791 and RFC 8200 for the fields' places. Every place, number
--- and mask here is this file's own: nothing comes from the generator. "Bytes past the end zero" is `be`.
+-- and mask here is this file's own: nothing comes from the generator. "bytes past the end zero" is `be`.
 use Prim.Native.Nat.{ℕ, _+_, _*_, _-_, _/_, _%_, _^_}
 use mathlib.Core.List.{List, [], _∷_}
 use mathlib.Core.Bool.{Bool, true, false, not, _&&_, _||_}
@@ -21,7 +21,7 @@ networkStart Ethernet = 14
 networkStart RawIp = 0
 networkStart LinuxSll = 16
 
--- "either, source, destination, both", of a test of the source and one of the destination
+-- "0 either, 1 source, 2 destination, 3 both", of a test of the source and one of the destination
 abbrev pub sides : Dir → Bool → Bool → Bool
 sides SrcOrDst s d = s || d
 sides Src s d = s
@@ -32,7 +32,7 @@ sides SrcAndDst s d = s && d
 abbrev pub first : ℕ → ℕ → ℕ
 first p v = v / 2 ^ (16 - p)
 
--- "Set: 6 and 17 for none"; Tcp, Udp and Sctp are 6, 17 and 132. The other protocols have no ports: their set is empty
+-- "Set: 6 and 17 for none"; Tcp, Udp and Sctp are 6, 17 and 132. The other protocols are number 6 in a build; here their set is empty
 abbrev pub portSet : Option Proto → ℕ → Bool
 portSet none q = eqb q 6 || eqb q 17
 portSet (some Tcp) q = eqb q 6
@@ -64,12 +64,12 @@ module _ (f : List ℕ) where
   bytesAre at [] = true
   bytesAre at (v ∷ vs) = eqb (b at) v && bytesAre (at + 1) vs
 
-  -- the segments from a place on agree with these in the first p bits
+  -- the segments from a place on agree with these in the first p bits; over 128 asks no more than 128
   unfoldable pub segmentsAgree : ℕ → ℕ → List ℕ → Bool
   segmentsAgree p at [] = true
   segmentsAgree p at (s ∷ ss) = eqb (first p (h at)) (first p s) && segmentsAgree (p - 16) (at + 2) ss
 
--- "Kind v: h at that place is v; on RawIp true for 0x0800 and false for every other v." "The ethertype's place 12, none, 14 by link"
+-- "Kind v: h at that place is v; on RawIp true for 0x0800 and false for every other v." ".. the ethertype's place 12, none, 14 by link"
 unfoldable pub kind : LinkType → List ℕ → ℕ → Bool
 kind Ethernet f v = eqb (h f 12) v
 kind RawIp f v = eqb v 0x0800
