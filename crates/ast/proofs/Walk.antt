@@ -2,12 +2,12 @@
 use Prim.Native.Nat.{ℕ, zero, suc, _+_, _*_, _-_, _≤_}
 use mathlib.Core.Path.{_≡_, refl, sym, ap, ap₂, _∙_}
 use mathlib.Core.List.{List, [], _∷_, _++_, append-assoc}
-use mathlib.Core.Bool.{Bool, true, false, _||_}
 use native.Mathlib.Omega.{arith}
 use lib.ListN.{length}
 use borrow.Author.Tests.{ltb-false, eqb-true, eqb-false, not-false}
 use Rattle.error.specs.Answer.{Out, refused, done, _>>=_}
 use Rattle.error.proofs.All.{All, all-bind, all-cond}
+use Rattle.error.proofs.Either.{neither}
 use Rattle.ast.specs.declared.LinkType.{LinkType}
 use Rattle.ast.specs.Tree.{Expr, Leaf, And, Or, Not}
 use Rattle.ast.specs.Record.{Node, AndNode, OrNode, NotNode, LeafNode, nodeAt}
@@ -112,10 +112,6 @@ pub record Counted (s : List ℕ) (n : ℕ) : Type 0 where
   pub most : n ≤ 128
   pub whole : length s ≡ 8 + 24 * n
 
-or-false : (a b : Bool) → (a || b) ≡ false → (a ≡ false) × (b ≡ false)
-or-false true b e = never cc
-or-false false b e = (refl, e)
-
 positive : (n : ℕ) → (n ≡ 0 → ⊥) → 1 ≤ n
 positive zero h = absurd (h refl)
 positive (suc n) h = omega arith
@@ -124,8 +120,8 @@ all-counted : (s : List ℕ) → All (Counted s) (count s)
 unfolding count
 all-counted s =
     all-cond (Counted s) _ _ (done (countOf s)) (λ e. tt) (λ e.
-    let p = or-false _ _ e in
-    let q = or-false _ _ (p .1) in
+    let p = neither _ _ e in
+    let q = neither _ _ (p .1) in
     record { here = refl; least = positive (countOf s) (eqb-false _ _ (p .0)); most = ltb-false _ _ (q .0); whole = eqb-true _ _ (not-false _ (q .1)) })
 
 pub counted : (s : List ℕ) (n : ℕ) → count s ≡ done n → Counted s n

@@ -79,3 +79,16 @@ program-read p h = ap (insnsAt (length p) 0) (sym (append-nil (programBytes p)))
 
 pub program-at : (p : List Insn) (i : ℕ) (d : Insn) → i < length p → AllFit p → insnAt (8 * i) (programBytes p) ≡ getD p i d
 program-at p i d l h = ap₂ insnAt (sym (zero-add (8 * i))) (sym (append-nil (programBytes p))) ∙ insn-at i p [] [] d l h
+
+-- ---- the instructions of any bytes
+
+pub length-insns : (n at : ℕ) (s : List ℕ) → length (insnsAt n at s) ≡ n
+unfolding insnsAt
+length-insns zero at s = refl
+length-insns (suc n) at s = ap suc (length-insns n (at + 8) s)
+
+pub insns-get : (n at i : ℕ) (s : List ℕ) (d : Insn) → i < n → getD (insnsAt n at s) i d ≡ insnAt (at + 8 * i) s
+unfolding insnsAt
+insns-get zero at i s d h = absurd (omega arith)
+insns-get (suc n) at zero s d h = rw (add-zero at)
+insns-get (suc n) at (suc i) s d h = insns-get n (at + 8) i s d (omega arith) ∙ ap (λ a. insnAt a s) (omega arith)

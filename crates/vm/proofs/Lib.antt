@@ -2,3 +2,9 @@ pub mod Examples
 pub mod Counter
 pub mod Steps
 pub mod Bytes
+pub mod Low
+pub mod Loads
+pub mod Tables
+pub mod Sums
+pub mod Turn
+pub mod Entry

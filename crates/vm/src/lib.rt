@@ -1,5 +1,17 @@
-// The classic BPF machine: what a run says.
+// The classic BPF machine: vm.rs, over the bytes of a program and of a frame.
 use error::Refusal;
+use std::num::wrapping_add_u32;
+use std::num::wrapping_sub_u32;
+ghost use mathlib.Core.Path.{_≡_};
+ghost use mathlib.Core.Bool.{cond, not, _||_};
+ghost use Prim.Native.Nat.{ℕ, _+_, _*_, _/_, _%_, _^_, _≤_, _<_};
+ghost use lib.ListN.{length, getD, replicate};
+ghost use lib.Dec.{eqb, ltb};
+ghost use Rattle.bpf.specs.Bytes.{be, leAt};
+ghost use Rattle.bpf.specs.Program.{insn};
+ghost use Rattle.vm.specs.Machine as M;
+ghost use Rattle.vm.specs.Runs.{from};
+ghost use Rattle.vm.specs.declared.Effect.the-variants.{SetA, SetX, Skip};
 
 pub enum Verdict {
     Accepted,
@@ -26,4 +38,338 @@ pub enum Effect {
     Store(u32, u32),
     Skip(u32),
     Stop(Verdict),
+}
+
+fn wide(b: u8) -> u32
+    ensures { λ r. ⌜ (r ≡ b) × (r < 256) ⌝ }
+{
+    b as u32
+}
+
+// The big-endian number of two bytes.
+fn half(frame: &[u8], at: usize) -> u32
+    requires { ⌜ at + 2 ≤ length (now frame) ⌝ }
+    ensures { λ r. ⌜ r ≡ be 2 at (now (frame .entry)) ⌝ }
+{
+    wide(frame[at]) * 256 + wide(frame[at + 1])
+}
+
+// The big-endian number of four bytes.
+fn word(frame: &[u8], at: usize) -> u32
+    requires { ⌜ at + 4 ≤ length (now frame) ⌝ }
+    ensures { λ r. ⌜ r ≡ be 4 at (now (frame .entry)) ⌝ }
+{
+    ((wide(frame[at]) * 256 + wide(frame[at + 1])) * 256 + wide(frame[at + 2])) * 256
+        + wide(frame[at + 3])
+}
+
+// The little-endian number k of an instruction.
+fn number(program: &[u8], at: usize) -> u32
+    requires { ⌜ at + 4 ≤ length (now program) ⌝ }
+    ensures { λ r. ⌜ r ≡ leAt 4 at (now (program .entry)) ⌝ }
+{
+    wide(program[at])
+        + wide(program[at + 1]) * 256
+        + wide(program[at + 2]) * 65536
+        + wide(program[at + 3]) * 16777216
+}
+
+// Packet loads of one, two and four bytes into A.
+fn load_byte(frame: &[u8], at: usize) -> Effect
+    ensures { λ r. ⌜ r ≡ M.load 1 at (now (frame .entry)) SetA ⌝ }
+{
+    if at < frame.len() {
+        Effect::SetA(wide(frame[at]))
+    } else {
+        Effect::Stop(Verdict::Short)
+    }
+}
+
+fn load_half(frame: &[u8], at: usize) -> Effect
+    requires { ⌜ at < 2 ^ 32 ⌝ }
+    ensures { λ r. ⌜ r ≡ M.load 2 at (now (frame .entry)) SetA ⌝ }
+{
+    if at + 2 <= frame.len() {
+        Effect::SetA(half(frame, at))
+    } else {
+        Effect::Stop(Verdict::Short)
+    }
+}
+
+fn load_word(frame: &[u8], at: usize) -> Effect
+    requires { ⌜ at < 2 ^ 32 ⌝ }
+    ensures { λ r. ⌜ r ≡ M.load 4 at (now (frame .entry)) SetA ⌝ }
+{
+    if at + 4 <= frame.len() {
+        Effect::SetA(word(frame, at))
+    } else {
+        Effect::Stop(Verdict::Short)
+    }
+}
+
+// 4 times the low half of a byte, into X.
+fn load_header(frame: &[u8], at: usize) -> Effect
+    ensures { λ r. ⌜ r ≡ M.load 1 at (now (frame .entry)) (λ v. SetX (4 * (v % 16))) ⌝ }
+{
+    if at < frame.len() {
+        Effect::SetX(4 * (wide(frame[at]) % 16))
+    } else {
+        Effect::Stop(Verdict::Short)
+    }
+}
+
+fn wrapping_mul(a: u32, b: u32) -> u32
+    ensures { λ r. ⌜ r ≡ M.wrap (a * b) ⌝ }
+{
+    ((a as u64 * b as u64) % 4294967296) as u32
+}
+
+// ---- any code
+
+// A packet load by its size.
+fn sized_load(frame: &[u8], at: u32, size: u32) -> Effect
+    ensures { λ r. ⌜ r ≡ M.sizedLoad size at (now (frame .entry)) ⌝ }
+{
+    let place = at as usize;
+    match size {
+        0 => load_word(frame, place),
+        1 => load_half(frame, place),
+        2 => load_byte(frame, place),
+        _ => Effect::Stop(Verdict::Broken),
+    }
+}
+
+// A scratch word into A, and into X.
+fn scratch_a(scratch: &[u32; 16], k: u32) -> Effect
+    ensures { λ r. ⌜ r ≡ M.scratch k (now (scratch .entry)) SetA ⌝ }
+{
+    let at = k as usize;
+    if at < 16 {
+        Effect::SetA(scratch[at])
+    } else {
+        Effect::Stop(Verdict::Broken)
+    }
+}
+
+fn scratch_x(scratch: &[u32; 16], k: u32) -> Effect
+    ensures { λ r. ⌜ r ≡ M.scratch k (now (scratch .entry)) SetX ⌝ }
+{
+    let at = k as usize;
+    if at < 16 {
+        Effect::SetX(scratch[at])
+    } else {
+        Effect::Stop(Verdict::Broken)
+    }
+}
+
+fn ld(frame: &[u8], scratch: &[u32; 16], mode: u32, size: u32, k: u32, x: u32) -> Effect
+    requires { ⌜ length (now frame) ≤ 65535 ⌝ }
+    ensures { λ r. ⌜ r ≡ M.ld (now (frame .entry)) (now (scratch .entry)) mode size k x ⌝ }
+{
+    match mode {
+        0 => Effect::SetA(k),
+        1 => sized_load(frame, k, size),
+        2 => sized_load(frame, wrapping_add_u32(x, k), size),
+        3 => scratch_a(scratch, k),
+        4 => Effect::SetA(frame.len() as u32),
+        _ => Effect::Stop(Verdict::Broken),
+    }
+}
+
+fn ldx(frame: &[u8], scratch: &[u32; 16], mode: u32, size: u32, k: u32) -> Effect
+    requires { ⌜ length (now frame) ≤ 65535 ⌝ }
+    ensures { λ r. ⌜ r ≡ M.ldx (now (frame .entry)) (now (scratch .entry)) mode size k ⌝ }
+{
+    match mode {
+        0 => Effect::SetX(k),
+        3 => scratch_x(scratch, k),
+        4 => Effect::SetX(frame.len() as u32),
+        5 => {
+            if size == 2 {
+                load_header(frame, k as usize)
+            } else {
+                Effect::Stop(Verdict::Broken)
+            }
+        }
+        _ => Effect::Stop(Verdict::Broken),
+    }
+}
+
+fn alu(op: u32, a: u32, v: u32) -> Effect
+    ensures { λ r. ⌜ r ≡ M.alu op a v ⌝ }
+{
+    match op {
+        0 => Effect::SetA(wrapping_add_u32(a, v)),
+        1 => Effect::SetA(wrapping_sub_u32(a, v)),
+        2 => Effect::SetA(wrapping_mul(a, v)),
+        3 => {
+            if v == 0 {
+                Effect::Stop(Verdict::Broken)
+            } else {
+                Effect::SetA(a / v)
+            }
+        }
+        4 => Effect::SetA(a | v),
+        5 => Effect::SetA(a & v),
+        6 => Effect::SetA(a << (v % 32)),
+        7 => Effect::SetA(a >> (v % 32)),
+        8 => Effect::SetA(wrapping_sub_u32(0, a)),
+        10 => Effect::SetA(a ^ v),
+        _ => Effect::Stop(Verdict::Broken),
+    }
+}
+
+fn branch(taken: bool, jt: u8, jf: u8) -> Effect
+    ensures { λ r. ⌜ r ≡ Skip (cond taken jt jf) ⌝ }
+{
+    if taken {
+        Effect::Skip(wide(jt))
+    } else {
+        Effect::Skip(wide(jf))
+    }
+}
+
+fn jmp(op: u32, jt: u8, jf: u8, k: u32, a: u32, v: u32) -> Effect
+    ensures { λ r. ⌜ r ≡ M.jmp op (insn 0 jt jf k) a v ⌝ }
+{
+    match op {
+        0 => Effect::Skip(k),
+        1 => branch(a == v, jt, jf),
+        2 => branch(v < a, jt, jf),
+        3 => branch(v <= a, jt, jf),
+        4 => branch(a & v != 0, jt, jf),
+        _ => Effect::Stop(Verdict::Broken),
+    }
+}
+
+fn ret(v: u32) -> Effect
+    ensures { λ r. ⌜ r ≡ M.ret v ⌝ }
+{
+    if v == 0 {
+        Effect::Stop(Verdict::Dropped)
+    } else {
+        Effect::Stop(Verdict::Accepted)
+    }
+}
+
+// By a bit of a code.
+fn choose(bit: u32, zero: u32, one: u32) -> u32
+    ensures { λ r. ⌜ r ≡ cond (eqb bit 0) zero one ⌝ }
+{
+    if bit == 0 { zero } else { one }
+}
+
+fn misc(bit: u32, a: u32, x: u32) -> Effect
+    ensures { λ r. ⌜ r ≡ cond (eqb bit 0) (SetX a) (SetA x) ⌝ }
+{
+    if bit == 0 {
+        Effect::SetX(a)
+    } else {
+        Effect::SetA(x)
+    }
+}
+
+// What an instruction with this low byte in its code does, by its class.
+fn effect_of(
+    frame: &[u8],
+    scratch: &[u32; 16],
+    low: u32,
+    jt: u8,
+    jf: u8,
+    k: u32,
+    a: u32,
+    x: u32,
+) -> Effect
+    requires { ⌜ length (now frame) ≤ 65535 ⌝ }
+    ensures { λ r. ⌜ r ≡ M.effect (now (frame .entry)) (now (scratch .entry)) (insn low jt jf k) a x ⌝ }
+{
+    let class = low % 8;
+    let v = choose(low / 8 % 2, k, x);
+    match class {
+        0 => ld(frame, scratch, low / 32 % 8, low / 8 % 4, k, x),
+        1 => ldx(frame, scratch, low / 32 % 8, low / 8 % 4, k),
+        2 => Effect::Store(k, a),
+        3 => Effect::Store(k, x),
+        4 => alu(low / 16 % 16, a, v),
+        5 => jmp(low / 16 % 16, jt, jf, k, a, v),
+        6 => ret(choose(low / 16 % 2, k, a)),
+        _ => misc(low / 128 % 2, a, x),
+    }
+}
+
+// The run from a counter on, with any code; the scratch words are still zero.
+fn general(program: &[u8], frame: &[u8], start: usize, a0: u32, x0: u32, steps0: u32) -> Outcome
+    requires { ⌜ (length (now program) ≤ 32768) × (length (now frame) ≤ 65535) × (steps0 ≤ start) × (start ≤ 4096) ⌝ }
+    ensures { λ r. ⌜ r ≡ from (now (program .entry)) (now (frame .entry)) start steps0 a0 x0 (replicate 16 0) ⌝ }
+{
+    let n = program.len() / 8;
+    let mut a = a0;
+    let mut x = x0;
+    let mut scratch = [0u32; 16];
+    let mut pc = start;
+    let mut steps = steps0;
+    while pc < n {
+        let at = 8 * pc;
+        let low = wide(program[at]);
+        let k = number(program, at + 4);
+        let e = effect_of(
+            frame,
+            &scratch,
+            low,
+            program[at + 2],
+            program[at + 3],
+            k,
+            a,
+            x,
+        );
+        steps += 1;
+        pc += 1;
+        match e {
+            Effect::SetA(v) => a = v,
+            Effect::SetX(v) => x = v,
+            Effect::Store(i, v) => {
+                let slot = i as usize;
+                if slot < 16 {
+                    scratch[slot] = v;
+                } else {
+                    return Outcome {
+                        verdict: Verdict::Broken,
+                        steps,
+                    };
+                }
+            }
+            Effect::Skip(d) => pc += d as usize,
+            Effect::Stop(v) => return Outcome { verdict: v, steps },
+        }
+    }
+    Outcome {
+        verdict: Verdict::Broken,
+        steps,
+    }
+}
+
+// A program's length that is refused: 0, over 32,768, or not a multiple of 8.
+fn odd_program(size: usize) -> bool
+    ensures { λ r. ⌜ r ≡ (eqb size 0 || (ltb 32768 size || not (eqb (size % 8) 0))) ⌝ }
+{
+    if size == 0 {
+        true
+    } else if 32768 < size {
+        true
+    } else {
+        size % 8 != 0
+    }
+}
+
+// A run tests the program's length, then the frame's.
+pub fn run(program: &[u8], frame: &[u8]) -> RunResult
+    ensures { λ r. ⌜ r ≡ M.run (now (program .entry)) (now (frame .entry)) ⌝ }
+{
+    if odd_program(program.len()) {
+        RunResult::Refused(Refusal::OddProgram)
+    } else if 65535 < frame.len() {
+        RunResult::Refused(Refusal::LongFrame)
+    } else {
+        RunResult::Ran(general(program, frame, 0, 0, 0, 0))
+    }
 }
