@@ -1,0 +1,26 @@
+-- A run stops within 4,096 steps.
+use Prim.Native.Nat.{ℕ, _/_, _≤_}
+use mathlib.Core.Bool.{Bool, true, false, cond}
+use mathlib.Core.Path.{_≡_, refl}
+use mathlib.Core.List.{List}
+use native.Mathlib.Omega.{arith}
+use lib.ListN.{length}
+use Rattle.error.specs.declared.Refusal.the-variants.{LongFrame, OddProgram}
+use Rattle.bpf.specs.Program.{insnsAt}
+use Rattle.bpf.specs.Bytes.{longFrame}
+use Rattle.bpf.proofs.Programs.{length-insns}
+use Rattle.vm.specs.declared.RunResult.the-variants.{Ran, Refused}
+use Rattle.vm.specs.Machine.{inner, oddProgram, run, stepsOf}
+use Rattle.vm.proofs.Steps.{inner-steps}
+use Rattle.vm.proofs.Entry.{odd-long}
+
+-- a program of at most 32,768 bytes has at most 4,096 instructions, and a run no more steps
+pub run-steps : (p f : List ℕ) → stepsOf (run p f) ≤ 4096
+unfolding run
+run-steps p f = go (oddProgram p) (longFrame f) refl
+  where
+    go : (odd long : Bool) → oddProgram p ≡ odd
+        → stepsOf (cond odd (Refused OddProgram) (cond long (Refused LongFrame) (Ran (inner (insnsAt (length p / 8) 0 p) f)))) ≤ 4096
+    go true long h = omega arith
+    go false true h = omega arith
+    go false false h = omega (arith, odd-long (length p) h, inner-steps (insnsAt (length p / 8) 0 p) f, length-insns (length p / 8) 0 p)
