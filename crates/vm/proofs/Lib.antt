@@ -6,5 +6,6 @@ pub mod Low
 pub mod Loads
 pub mod Tables
 pub mod Sums
-pub mod Turn
+pub mod Onward
 pub mod Entry
+pub mod Ways

@@ -10,7 +10,8 @@ ghost use lib.Dec.{eqb, ltb};
 ghost use Rattle.bpf.specs.Bytes.{be, leAt};
 ghost use Rattle.bpf.specs.Program.{insn};
 ghost use Rattle.vm.specs.Machine as M;
-ghost use Rattle.vm.specs.Runs.{from};
+ghost use Rattle.vm.specs.Runs.{from, At, Next, AnyA, AnyX, Turns};
+ghost use Rattle.vm.specs.declared.Way.the-variants.{Taken, Missed, Dropped, Accepted};
 ghost use Rattle.vm.specs.declared.Effect.the-variants.{SetA, SetX, Skip};
 
 pub enum Verdict {
@@ -38,6 +39,27 @@ pub enum Effect {
     Store(u32, u32),
     Skip(u32),
     Stop(Verdict),
+}
+
+// How a run goes on: with the instruction that follows, by k, jt or jf, by the jt or jf of a test that follows a load; it ends; or the code is another than the generator's, and nothing is done yet.
+pub enum Way {
+    On,
+    Jump,
+    Taken,
+    Missed,
+    NextTaken,
+    NextMissed,
+    Accepted,
+    Dropped,
+    Short,
+    Other,
+}
+
+// A way, with the A and X that go along.
+pub struct Turn {
+    pub way: Way,
+    pub a: u32,
+    pub x: u32,
 }
 
 fn wide(b: u8) -> u32
@@ -348,6 +370,254 @@ fn general(program: &[u8], frame: &[u8], start: usize, a0: u32, x0: u32, steps0:
     }
 }
 
+// ---- the codes that the generator emits
+
+// After a load: a test of A that follows is made at once.
+fn next(program: &[u8], at: usize, a: u32) -> Way
+    requires { ⌜ At (now program) at ⌝ }
+    ensures { λ r. ⌜ Next (now (program .entry)) at a r ⌝ }
+{
+    if at + 8 < program.len() {
+        if program[at + 8] == 0x15 {
+            if a == number(program, at + 12) {
+                Way::NextTaken
+            } else {
+                Way::NextMissed
+            }
+        } else {
+            Way::On
+        }
+    } else {
+        Way::On
+    }
+}
+
+// The packet loads into A, at a place of the frame.
+fn byte_then(program: &[u8], frame: &[u8], at: usize, place: usize, x: u32) -> Turn
+    requires { ⌜ At (now program) at ⌝ }
+    ensures { λ r. ⌜ AnyA (now (program .entry)) (now (frame .entry)) at x (M.load 1 place (now (frame .entry)) SetA) r ⌝ }
+{
+    if place < frame.len() {
+        let a = wide(frame[place]);
+        Turn {
+            way: next(program, at, a),
+            a,
+            x,
+        }
+    } else {
+        Turn {
+            way: Way::Short,
+            a: 0,
+            x,
+        }
+    }
+}
+
+fn half_then(program: &[u8], frame: &[u8], at: usize, place: usize, x: u32) -> Turn
+    requires { ⌜ At (now program) at × (place < 2 ^ 32) ⌝ }
+    ensures { λ r. ⌜ AnyA (now (program .entry)) (now (frame .entry)) at x (M.load 2 place (now (frame .entry)) SetA) r ⌝ }
+{
+    if place + 2 <= frame.len() {
+        let a = half(frame, place);
+        Turn {
+            way: next(program, at, a),
+            a,
+            x,
+        }
+    } else {
+        Turn {
+            way: Way::Short,
+            a: 0,
+            x,
+        }
+    }
+}
+
+fn word_then(program: &[u8], frame: &[u8], at: usize, place: usize, x: u32) -> Turn
+    requires { ⌜ At (now program) at × (place < 2 ^ 32) ⌝ }
+    ensures { λ r. ⌜ AnyA (now (program .entry)) (now (frame .entry)) at x (M.load 4 place (now (frame .entry)) SetA) r ⌝ }
+{
+    if place + 4 <= frame.len() {
+        let a = word(frame, place);
+        Turn {
+            way: next(program, at, a),
+            a,
+            x,
+        }
+    } else {
+        Turn {
+            way: Way::Short,
+            a: 0,
+            x,
+        }
+    }
+}
+
+// The header's length into X.
+fn header(frame: &[u8], place: usize, a: u32) -> Turn
+    ensures { λ r. ⌜ AnyX (now (frame .entry)) a (M.load 1 place (now (frame .entry)) (λ v. SetX (4 * (v % 16)))) r ⌝ }
+{
+    if place < frame.len() {
+        Turn {
+            way: Way::On,
+            a,
+            x: 4 * (wide(frame[place]) % 16),
+        }
+    } else {
+        Turn {
+            way: Way::Short,
+            a,
+            x: 0,
+        }
+    }
+}
+
+fn test(taken: bool, a: u32, x: u32) -> Turn
+    ensures { λ r. ⌜ r ≡ record { way = cond taken Taken Missed; a = a; x = x } ⌝ }
+{
+    if taken {
+        Turn {
+            way: Way::Taken,
+            a,
+            x,
+        }
+    } else {
+        Turn {
+            way: Way::Missed,
+            a,
+            x,
+        }
+    }
+}
+
+fn finish(k: u32, a: u32, x: u32) -> Turn
+    ensures { λ r. ⌜ r ≡ record { way = cond (eqb k 0) Dropped Accepted; a = a; x = x } ⌝ }
+{
+    if k == 0 {
+        Turn {
+            way: Way::Dropped,
+            a,
+            x,
+        }
+    } else {
+        Turn {
+            way: Way::Accepted,
+            a,
+            x,
+        }
+    }
+}
+
+// The instruction whose bytes start at a place, by its code.
+fn turn_of(program: &[u8], frame: &[u8], at: usize, a: u32, x: u32) -> Turn
+    requires { ⌜ At (now program) at ⌝ }
+    ensures { λ r. ⌜ Turns (now (program .entry)) (now (frame .entry)) at a x r ⌝ }
+{
+    let low = wide(program[at]);
+    let k = number(program, at + 4);
+    match low {
+        0x20 => word_then(program, frame, at, k as usize, x),
+        0x28 => half_then(program, frame, at, k as usize, x),
+        0x30 => byte_then(program, frame, at, k as usize, x),
+        0x48 => half_then(program, frame, at, wrapping_add_u32(x, k) as usize, x),
+        0xb1 => header(frame, k as usize, a),
+        0x01 => Turn {
+            way: Way::On,
+            a,
+            x: k,
+        },
+        0x54 => Turn {
+            way: Way::On,
+            a: a & k,
+            x,
+        },
+        0x05 => Turn {
+            way: Way::Jump,
+            a,
+            x,
+        },
+        0x15 => test(a == k, a, x),
+        0x25 => test(k < a, a, x),
+        0x35 => test(k <= a, a, x),
+        0x45 => test(a & k != 0, a, x),
+        0x06 => finish(k, a, x),
+        _ => Turn {
+            way: Way::Other,
+            a,
+            x,
+        },
+    }
+}
+
+// The bytes that a jump field skips.
+fn skipped(program: &[u8], at: usize) -> usize
+    requires { ⌜ at < length (now program) ⌝ }
+    ensures { λ r. ⌜ (r ≡ 8 * getD (now (program .entry)) at 0) × (r < 2048) ⌝ }
+{
+    8 * (wide(program[at]) as usize)
+}
+
+// A whole run; the scratch words stay zero until a code comes that is not the generator's.
+fn quick(program: &[u8], frame: &[u8]) -> Outcome
+    requires { ⌜ (length (now program) ≤ 32768) × (length (now program) % 8 ≡ 0) × (length (now frame) ≤ 65535) ⌝ }
+    ensures { λ r. ⌜ r ≡ from (now (program .entry)) (now (frame .entry)) 0 0 0 0 (replicate 16 0) ⌝ }
+{
+    let n = program.len();
+    let mut a = 0u32;
+    let mut x = 0u32;
+    let mut at = 0usize;
+    let mut steps = 0u32;
+    while at < n {
+        let t = turn_of(program, frame, at, a, x);
+        a = t.a;
+        x = t.x;
+        let way = t.way;
+        match way {
+            Way::On => {
+                steps += 1;
+                at += 8;
+            }
+            Way::Jump => {
+                steps += 1;
+                at += 8 + 8 * (number(program, at + 4) as usize);
+            }
+            Way::Taken => {
+                steps += 1;
+                at += 8 + skipped(program, at + 2);
+            }
+            Way::Missed => {
+                steps += 1;
+                at += 8 + skipped(program, at + 3);
+            }
+            Way::NextTaken => {
+                steps += 2;
+                at += 16 + skipped(program, at + 10);
+            }
+            Way::NextMissed => {
+                steps += 2;
+                at += 16 + skipped(program, at + 11);
+            }
+            Way::Accepted => return Outcome {
+                verdict: Verdict::Accepted,
+                steps: steps + 1,
+            },
+            Way::Dropped => return Outcome {
+                verdict: Verdict::Dropped,
+                steps: steps + 1,
+            },
+            Way::Short => return Outcome {
+                verdict: Verdict::Short,
+                steps: steps + 1,
+            },
+            Way::Other => return general(program, frame, at / 8, a, x, steps),
+        }
+    }
+    Outcome {
+        verdict: Verdict::Broken,
+        steps,
+    }
+}
+
 // A program's length that is refused: 0, over 32,768, or not a multiple of 8.
 fn odd_program(size: usize) -> bool
     ensures { λ r. ⌜ r ≡ (eqb size 0 || (ltb 32768 size || not (eqb (size % 8) 0))) ⌝ }
@@ -370,6 +640,6 @@ pub fn run(program: &[u8], frame: &[u8]) -> RunResult
     } else if 65535 < frame.len() {
         RunResult::Refused(Refusal::LongFrame)
     } else {
-        RunResult::Ran(general(program, frame, 0, 0, 0, 0))
+        RunResult::Ran(quick(program, frame))
     }
 }

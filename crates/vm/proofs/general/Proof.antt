@@ -7,8 +7,8 @@ use lib.ListN.{getD, replicate}
 use Rattle.bpf.specs.Program.{insn}
 use Rattle.vm.specs.declared.Effect.{Effect}
 use Rattle.vm.specs.Machine.{effect}
-use Rattle.vm.specs.Runs.{from}
-use Rattle.vm.proofs.Turn.{goes, run-past, run-turn}
+use Rattle.vm.specs.Runs.{from, goes}
+use Rattle.vm.proofs.Onward.{run-past, run-turn}
 use Rattle.vm.proofs.general.Statement.{statement}
 use Rattle.vm.proofs.general.Tie as tie
 

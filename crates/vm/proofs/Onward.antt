@@ -3,22 +3,19 @@ use Prim.Native.Nat.{ℕ, suc, _+_, _*_, _/_, _%_, _≤_, _<_}
 use mathlib.Core.Path.{_≡_, refl, sym, ap, _∙_}
 use mathlib.Core.List.{List}
 use native.Mathlib.Omega.{arith}
-use mathlib.Core.Bool.{cond}
 use native.Mathlib.Nat.{add-zero}
 use native.Mathlib.Numerals.{add-one}
-use lib.ListN.{length, getD, set}
-use lib.Dec.{ltb}
+use lib.ListN.{length, getD}
 use Rattle.bpf.specs.declared.Insn.{Insn}
 use Rattle.bpf.specs.Bytes.{leAt}
 use Rattle.bpf.specs.Program.{insn, insnAt}
 use Rattle.bpf.proofs.Bytes.{le-next, le-last}
 use Rattle.bpf.proofs.Programs.{length-insns, insns-get}
 use Rattle.vm.specs.declared.Verdict.the-variants.{Broken}
-use Rattle.vm.specs.declared.Outcome.{Outcome}
 use Rattle.vm.specs.declared.Effect.{Effect}
 use Rattle.vm.specs.declared.Effect.the-variants.{SetA, SetX, Store, Skip, Stop}
 use Rattle.vm.specs.Machine.{effect, after, ended}
-use Rattle.vm.specs.Runs.{insnsOf, from}
+use Rattle.vm.specs.Runs.{insnsOf, from, goes}
 use Rattle.vm.proofs.Counter.{exec-past, exec-at}
 use Rattle.vm.proofs.Low.{effect-low}
 
@@ -37,14 +34,6 @@ unfolding insnAt
 low-effect at s f m a x h =
     ap (λ c. effect f m (insn c (getD s (at + 2) 0) (getD s (at + 3) 0) (leAt 4 (at + 4) s)) a x) (sym (low-code at s h))
     ∙ effect-low f m (leAt 2 at s) (getD s (at + 2) 0) (getD s (at + 3) 0) (leAt 4 (at + 4) s) a x
-
--- the run that an effect leaves, in the numbers of a loop
-abbrev pub goes : List ℕ → List ℕ → Effect → ℕ → ℕ → ℕ → ℕ → List ℕ → Outcome
-goes s f (SetA v) pc t a x m = from s f (pc + 1) (t + 1) v x m
-goes s f (SetX v) pc t a x m = from s f (pc + 1) (t + 1) a v m
-goes s f (Store k v) pc t a x m = cond (ltb k 16) (from s f (pc + 1) (t + 1) a x (set m k v)) (ended Broken (t + 1))
-goes s f (Skip n) pc t a x m = from s f (pc + 1 + n) (t + 1) a x m
-goes s f (Stop v) pc t a x m = ended v (t + 1)
 
 module _ (s f : List ℕ) (pc t a x : ℕ) (m : List ℕ) where
   onward : (e : Effect) → after (λ n a′ x′ m′. from s f (suc pc + n) (suc t) a′ x′ m′) e (suc t) a x m ≡ goes s f e pc t a x m
