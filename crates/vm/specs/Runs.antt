@@ -80,6 +80,10 @@ pub record Goes (s f : List ℕ) (at : ℕ) (before : ℕ → Outcome) (r : Turn
 abbrev pub Turns : List ℕ → List ℕ → ℕ → ℕ → ℕ → Turn → Type 0
 Turns s f at a x r = Goes s f at (λ t. from s f (at / 8) t a x zeros) r
 
+-- wherever an instruction with this low byte of a code and this number stands
+abbrev pub Anywhere : ℕ → ℕ → ℕ → ℕ → Turn → Type 0
+Anywhere low k a x r = (s f : List ℕ) (at : ℕ) → At s at → low < 256 → low ≡ getD s at 0 → k ≡ leAt 4 (at + 4) s → Turns s f at a x r
+
 -- the run that an effect of that instruction leaves
 abbrev pub Follows : List ℕ → List ℕ → ℕ → ℕ → ℕ → Effect → Turn → Type 0
 Follows s f at a x e r = Goes s f at (λ t. goes s f e (at / 8) t a x zeros) r

@@ -10,7 +10,7 @@ ghost use lib.Dec.{eqb, ltb};
 ghost use Rattle.bpf.specs.Bytes.{be, leAt};
 ghost use Rattle.bpf.specs.Program.{insn};
 ghost use Rattle.vm.specs.Machine as M;
-ghost use Rattle.vm.specs.Runs.{from, At, Next, AnyA, AnyX, Turns};
+ghost use Rattle.vm.specs.Runs.{from, At, Next, AnyA, AnyX, Turns, Anywhere};
 ghost use Rattle.vm.specs.declared.Way.the-variants.{Taken, Missed, Dropped, Accepted};
 ghost use Rattle.vm.specs.declared.Effect.the-variants.{SetA, SetX, Skip};
 
@@ -472,21 +472,19 @@ fn header(frame: &[u8], place: usize, a: u32) -> Turn
     }
 }
 
+fn go(way: Way, a: u32, x: u32) -> Turn
+    ensures { λ r. ⌜ r ≡ record { way = way; a = a; x = x } ⌝ }
+{
+    Turn { way, a, x }
+}
+
 fn test(taken: bool, a: u32, x: u32) -> Turn
     ensures { λ r. ⌜ r ≡ record { way = cond taken Taken Missed; a = a; x = x } ⌝ }
 {
     if taken {
-        Turn {
-            way: Way::Taken,
-            a,
-            x,
-        }
+        go(Way::Taken, a, x)
     } else {
-        Turn {
-            way: Way::Missed,
-            a,
-            x,
-        }
+        go(Way::Missed, a, x)
     }
 }
 
@@ -494,23 +492,53 @@ fn finish(k: u32, a: u32, x: u32) -> Turn
     ensures { λ r. ⌜ r ≡ record { way = cond (eqb k 0) Dropped Accepted; a = a; x = x } ⌝ }
 {
     if k == 0 {
-        Turn {
-            way: Way::Dropped,
-            a,
-            x,
-        }
+        go(Way::Dropped, a, x)
     } else {
-        Turn {
-            way: Way::Accepted,
-            a,
-            x,
-        }
+        go(Way::Accepted, a, x)
+    }
+}
+
+// ---- other codes that use no scratch word
+
+// Arithmetic; what it breaks at is left for the general loop.
+fn alu_turn(low: u32, k: u32, a: u32, x: u32) -> Turn
+    requires { ⌜ low % 8 ≡ 4 ⌝ }
+    ensures { λ r. ⌜ Anywhere low k a x r ⌝ }
+{
+    let e = alu(low / 16 % 16, a, choose(low / 8 % 2, k, x));
+    match e {
+        Effect::SetA(v) => go(Way::On, v, x),
+        _ => go(Way::Other, a, x),
+    }
+}
+
+fn misc_turn(low: u32, k: u32, a: u32, x: u32) -> Turn
+    requires { ⌜ low % 8 ≡ 7 ⌝ }
+    ensures { λ r. ⌜ Anywhere low k a x r ⌝ }
+{
+    if low / 128 % 2 == 0 {
+        go(Way::On, a, a)
+    } else {
+        go(Way::On, x, x)
+    }
+}
+
+// By the class in the code.
+fn rest_turn(low: u32, k: u32, a: u32, x: u32) -> Turn
+    ensures { λ r. ⌜ Anywhere low k a x r ⌝ }
+{
+    let class = low % 8;
+    match class {
+        4 => alu_turn(low, k, a, x),
+        6 => finish(choose(low / 16 % 2, k, a), a, x),
+        7 => misc_turn(low, k, a, x),
+        _ => go(Way::Other, a, x),
     }
 }
 
 // The instruction whose bytes start at a place, by its code.
 fn turn_of(program: &[u8], frame: &[u8], at: usize, a: u32, x: u32) -> Turn
-    requires { ⌜ At (now program) at ⌝ }
+    requires { ⌜ At (now program) at × (length (now frame) ≤ 65535) ⌝ }
     ensures { λ r. ⌜ Turns (now (program .entry)) (now (frame .entry)) at a x r ⌝ }
 {
     let low = wide(program[at]);
@@ -521,31 +549,16 @@ fn turn_of(program: &[u8], frame: &[u8], at: usize, a: u32, x: u32) -> Turn
         0x30 => byte_then(program, frame, at, k as usize, x),
         0x48 => half_then(program, frame, at, wrapping_add_u32(x, k) as usize, x),
         0xb1 => header(frame, k as usize, a),
-        0x01 => Turn {
-            way: Way::On,
-            a,
-            x: k,
-        },
-        0x54 => Turn {
-            way: Way::On,
-            a: a & k,
-            x,
-        },
-        0x05 => Turn {
-            way: Way::Jump,
-            a,
-            x,
-        },
+        0x80 => go(Way::On, frame.len() as u32, x),
+        0x01 => go(Way::On, a, k),
+        0x54 => go(Way::On, a & k, x),
+        0x05 => go(Way::Jump, a, x),
         0x15 => test(a == k, a, x),
         0x25 => test(k < a, a, x),
         0x35 => test(k <= a, a, x),
         0x45 => test(a & k != 0, a, x),
         0x06 => finish(k, a, x),
-        _ => Turn {
-            way: Way::Other,
-            a,
-            x,
-        },
+        _ => rest_turn(low, k, a, x),
     }
 }
 

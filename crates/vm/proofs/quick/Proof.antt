@@ -32,7 +32,7 @@ loop-holds : tie.Need-loop-holds Inv-loop μ-loop
 loop-holds c = (refl, search needs, refl)
 
 turn-of-requires : tie.Need-turn-of-requires Inv-loop μ-loop
-turn-of-requires c κs = record { inside = c .loop-test .taken; start = c .before .loop .inv .0; whole = c .before .before .before .before .pre .1; limit = c .before .before .before .before .pre .0 }
+turn-of-requires c κs = (record { inside = c .loop-test .taken; start = c .before .loop .inv .0; whole = c .before .before .before .before .pre .1; limit = c .before .before .before .before .pre .0 }, c .before .before .before .before .pre .2)
 
 loop-again : tie.Need-loop-again Inv-loop μ-loop
 loop-again c = let s = c .before .before .before .before .before .before .before .args .program .now in let r = c .before .before .turn-of .result in (omega (arith), omega (arith), moved s (c .before .before .before .before .before .before .before .args .frame .now) ((c .before .before .before .before .loop .at + 8) / 8) (c .before .before .before .before .loop .at / 8 + 1) (c .before .before .before .before .loop .steps + 1) (r .a) (r .x) (omega (arith)) (left (c .before .before) On (c .enum-told .given .1)))

@@ -3,7 +3,7 @@ use Prim.Native.Nat.{_+_, _*_, _%_}
 use mathlib.Core.Path.{_≡_, refl}
 use mathlib.Core.Bool.{Bool, cond, not}
 use native.Mathlib.Omega.{arith}
-use lib.ListN.{getD}
+use lib.ListN.{length, getD}
 use lib.Dec.{eqb, ltb, leb}
 use lib.Bits.{bitAnd}
 use Rattle.bpf.specs.Program.{insn}
@@ -27,7 +27,7 @@ told : (c : tie.After-number) (e : Effect) (r : Turn)
     → Turns s (a .frame .now) (a .at) (a .a) (a .x) r
 told c e r q g =
     let a = c .before .before .before .before .before .args in
-    turned (a .program .now) (a .frame .now) (a .at) (a .a) (a .x) _ _ e r (c .before .before .before .before .before .pre) (c .before .wide .ensures .1) (c .before .wide .ensures .0) (c .number .ensures) q g
+    turned (a .program .now) (a .frame .now) (a .at) (a .a) (a .x) _ _ e r (c .before .before .before .before .before .pre .0) (c .before .wide .ensures .1) (c .before .wide .ensures .0) (c .number .ensures) q g
 
 asked : (c : tie.After-number) (b : Bool)
     → let a = c .before .before .before .before .before .args in
@@ -37,7 +37,7 @@ asked : (c : tie.After-number) (b : Bool)
     → Turns s (a .frame .now) (a .at) (a .a) (a .x) (record { way = cond b Taken Missed; a = a .a; x = a .x })
 asked c b q =
     let a = c .before .before .before .before .before .args in
-    told c _ _ q (tested (a .program .now) (a .frame .now) (a .at) (a .a) (a .x) b (c .before .before .before .before .before .pre))
+    told c _ _ q (tested (a .program .now) (a .frame .now) (a .at) (a .a) (a .x) b (c .before .before .before .before .before .pre .0))
 
 returns : tie.Need-returns
 unfolding effect ld ldx sizedLoad alu jmp
@@ -57,43 +57,47 @@ returns-4 c = told (c .before .before .before) (load 2 (c .before .wrapping-add-
 
 returns-5 : tie.Need-returns-5
 unfolding effect ld ldx sizedLoad alu jmp
-returns-5 c = told (c .before .before) (load 1 (c .before .before .number .result) (c .before .before .before .before .before .before .before .args .frame .now) (λ v. SetX (4 * (v % 16)))) _ (rw (c .before .match .keys5)) (c .header .ensures _ _ _ (c .before .before .before .before .before .before .before .pre))
+returns-5 c = told (c .before .before) (load 1 (c .before .before .number .result) (c .before .before .before .before .before .before .before .args .frame .now) (λ v. SetX (4 * (v % 16)))) _ (rw (c .before .match .keys5)) (c .header .ensures _ _ _ (c .before .before .before .before .before .before .before .pre .0))
 
 returns-6 : tie.Need-returns-6
 unfolding effect ld ldx sizedLoad alu jmp
-returns-6 c = told (c .before) (SetX (c .before .number .result)) _ (rw (c .match .keys6)) (record { room = omega arith; same = λ t. refl })
+returns-6 c = told (c .before .before) (SetA (length (c .before .before .before .before .before .before .before .args .frame .now))) _ (rw (c .before .match .keys6)) (rw (c .go .ensures) (record { room = omega arith; same = λ t. refl }))
 
 returns-7 : tie.Need-returns-7
 unfolding effect ld ldx sizedLoad alu jmp
-returns-7 c = told (c .before) (SetA (bitAnd (c .before .before .before .before .before .before .args .a) (c .before .number .result))) _ (rw (c .match .keys7)) (record { room = omega arith; same = λ t. refl })
+returns-7 c = told (c .before .before) (SetX (c .before .before .number .result)) _ (rw (c .before .match .keys7)) (rw (c .go2 .ensures) (record { room = omega arith; same = λ t. refl }))
 
 returns-8 : tie.Need-returns-8
 unfolding effect ld ldx sizedLoad alu jmp
-returns-8 c = told (c .before) (Skip (c .before .number .result)) _ (rw (c .match .keys8)) (record { room = omega arith; same = λ t. rw (c .before .number .ensures) })
+returns-8 c = told (c .before .before) (SetA (bitAnd (c .before .before .before .before .before .before .before .args .a) (c .before .before .number .result))) _ (rw (c .before .match .keys8)) (rw (c .go3 .ensures) (record { room = omega arith; same = λ t. refl }))
 
 returns-9 : tie.Need-returns-9
 unfolding effect ld ldx sizedLoad alu jmp
-returns-9 c = rw (c .test .ensures) (asked (c .before .before) (eqb (c .before .before .before .before .before .before .before .args .a) (c .before .before .number .result)) (rw (c .before .match .keys9)))
+returns-9 c = told (c .before .before) (Skip (c .before .before .number .result)) _ (rw (c .before .match .keys9)) (rw (c .go4 .ensures) (record { room = omega arith; same = λ t. rw (c .before .before .number .ensures) }))
 
 returns-10 : tie.Need-returns-10
 unfolding effect ld ldx sizedLoad alu jmp
-returns-10 c = rw (c .test2 .ensures) (asked (c .before .before) (ltb (c .before .before .number .result) (c .before .before .before .before .before .before .before .args .a)) (rw (c .before .match .keys10)))
+returns-10 c = rw (c .test .ensures) (asked (c .before .before) (eqb (c .before .before .before .before .before .before .before .args .a) (c .before .before .number .result)) (rw (c .before .match .keys10)))
 
 returns-11 : tie.Need-returns-11
 unfolding effect ld ldx sizedLoad alu jmp
-returns-11 c = rw (c .test3 .ensures) (asked (c .before .before) (leb (c .before .before .number .result) (c .before .before .before .before .before .before .before .args .a)) (rw (c .before .match .keys11)))
+returns-11 c = rw (c .test2 .ensures) (asked (c .before .before) (ltb (c .before .before .number .result) (c .before .before .before .before .before .before .before .args .a)) (rw (c .before .match .keys11)))
 
 returns-12 : tie.Need-returns-12
 unfolding effect ld ldx sizedLoad alu jmp
-returns-12 c = rw (c .test4 .ensures) (asked (c .before .before) (not (eqb (bitAnd (c .before .before .before .before .before .before .before .args .a) (c .before .before .number .result)) 0)) (rw (c .before .match .keys12)))
+returns-12 c = rw (c .test3 .ensures) (asked (c .before .before) (leb (c .before .before .number .result) (c .before .before .before .before .before .before .before .args .a)) (rw (c .before .match .keys12)))
 
 returns-13 : tie.Need-returns-13
 unfolding effect ld ldx sizedLoad alu jmp
-returns-13 c = told (c .before .before) (Stop (cond (eqb (c .before .before .number .result) 0) verdict.Dropped verdict.Accepted)) _ (rw (c .before .match .keys13)) (rw (c .finish .ensures) (finished _ _ _ _ _ (eqb (c .before .before .number .result) 0) (c .before .before .before .before .before .before .before .pre)))
+returns-13 c = rw (c .test4 .ensures) (asked (c .before .before) (not (eqb (bitAnd (c .before .before .before .before .before .before .before .args .a) (c .before .before .number .result)) 0)) (rw (c .before .match .keys13)))
 
 returns-14 : tie.Need-returns-14
 unfolding effect ld ldx sizedLoad alu jmp
-returns-14 c = record { room = omega arith; same = λ t. refl }
+returns-14 c = told (c .before .before) (Stop (cond (eqb (c .before .before .number .result) 0) verdict.Dropped verdict.Accepted)) _ (rw (c .before .match .keys14)) (rw (c .finish .ensures) (finished _ _ _ _ _ (eqb (c .before .before .number .result) 0) (c .before .before .before .before .before .before .before .pre .0)))
+
+returns-15 : tie.Need-returns-15
+unfolding effect ld ldx sizedLoad alu jmp
+returns-15 c = c .rest-turn .ensures _ _ _ (c .before .before .before .before .before .before .before .pre .0) (c .before .before .before .wide .ensures .1) (c .before .before .before .wide .ensures .0) (c .before .before .number .ensures)
 
 pub turn-of-spec : {M : Type 1} → statement M
 turn-of-spec =
@@ -114,6 +118,12 @@ turn-of-spec =
     (λ c κs. search needs)
     (λ c. search needs)
     (λ c κs. search needs)
+    (λ c. search needs)
+    (λ c κs. search needs)
+    (λ c κs. search needs)
+    (λ c κs. search needs)
+    (λ c κs. search needs)
+    (λ c κs. search needs)
     (λ c κs. search needs)
     (λ c κs. search needs)
     (λ c κs. search needs)
@@ -132,4 +142,5 @@ turn-of-spec =
     returns-11
     returns-12
     returns-13
-    returns-14)
+    returns-14
+    returns-15)
