@@ -13,10 +13,10 @@ use Rattle.vm.specs.declared.Outcome.{Outcome}
 use Rattle.vm.specs.declared.Effect.{Effect}
 use Rattle.vm.specs.declared.Effect.the-variants.{SetA, Skip, Stop}
 use Rattle.vm.specs.declared.Way.{Way}
-use Rattle.vm.specs.declared.Way.the-variants.{Taken, Missed, Accepted, Dropped, Short}
+use Rattle.vm.specs.declared.Way.the-variants.{On, Taken, Missed, Accepted, Dropped, Short}
 use Rattle.vm.specs.declared.Turn.{Turn}
 use Rattle.vm.specs.Machine.{effect, load, jmp}
-use Rattle.vm.specs.Runs.{from, goes, zeros, At, Turns, Follows, AnyA, Next}
+use Rattle.vm.specs.Runs.{from, goes, zeros, At, Turns, Follows, AnyA, Next, Settles, Anywhere}
 use Rattle.vm.proofs.Loads.{load-in, load-out}
 use Rattle.vm.proofs.Onward.{lowInsn, run-turn}
 
@@ -41,6 +41,17 @@ turned s f at a x low k e r h b l n q g =
       room = g .room;
       same = λ t. run-place s f at t a x zeros e h (rw (← l) b) (sym q ∙ rw (l, n)) ∙ g .same t;
     }
+
+-- a turn that is right wherever the effect is this one
+pub settled : (low k a x : ℕ) (e : Effect) (r : Turn) → ((f : List ℕ) (jt jf : ℕ) → effect f zeros (insn low jt jf k) a x ≡ e) → Settles e a x r
+    → Anywhere low k a x r
+settled low k a x e r q g s f at h b l n =
+    g s f at h (λ t. run-place s f at t a x zeros e h (rw (← l) b) (sym (q f (getD s (at + 2) 0) (getD s (at + 3) 0)) ∙ rw (l, n)))
+
+-- an effect that the turn has made
+pub made : (e : Effect) (a x : ℕ) (r : Turn) → r .way ≡ On → ((s f : List ℕ) (pc t : ℕ) → goes s f e pc t a x zeros ≡ from s f (pc + 1) (t + 1) (r .a) (r .x) zeros)
+    → Settles e a x r
+made e a x r w q s f at h g = record { room = rw w (omega arith); same = λ t. rw w (g t ∙ q s f (at / 8) t) }
 
 -- ---- a load, and the test that may follow it
 

@@ -80,6 +80,10 @@ pub record Goes (s f : List ℕ) (at : ℕ) (before : ℕ → Outcome) (r : Turn
 abbrev pub Turns : List ℕ → List ℕ → ℕ → ℕ → ℕ → Turn → Type 0
 Turns s f at a x r = Goes s f at (λ t. from s f (at / 8) t a x zeros) r
 
+-- wherever the instruction's effect is this one
+abbrev pub Settles : Effect → ℕ → ℕ → Turn → Type 0
+Settles e a x r = (s f : List ℕ) (at : ℕ) → At s at → ((t : ℕ) → from s f (at / 8) t a x zeros ≡ goes s f e (at / 8) t a x zeros) → Turns s f at a x r
+
 -- wherever an instruction with this low byte of a code and this number stands
 abbrev pub Anywhere : ℕ → ℕ → ℕ → ℕ → Turn → Type 0
 Anywhere low k a x r = (s f : List ℕ) (at : ℕ) → At s at → low < 256 → low ≡ getD s at 0 → k ≡ leAt 4 (at + 4) s → Turns s f at a x r

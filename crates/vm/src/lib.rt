@@ -10,7 +10,7 @@ ghost use lib.Dec.{eqb, ltb};
 ghost use Rattle.bpf.specs.Bytes.{be, leAt};
 ghost use Rattle.bpf.specs.Program.{insn};
 ghost use Rattle.vm.specs.Machine as M;
-ghost use Rattle.vm.specs.Runs.{from, At, Next, AnyA, AnyX, Turns, Anywhere};
+ghost use Rattle.vm.specs.Runs.{from, At, Next, AnyA, AnyX, Turns, Settles, Anywhere};
 ghost use Rattle.vm.specs.declared.Way.the-variants.{Taken, Missed, Dropped, Accepted};
 ghost use Rattle.vm.specs.declared.Effect.the-variants.{SetA, SetX, Skip};
 
@@ -501,37 +501,42 @@ fn finish(k: u32, a: u32, x: u32) -> Turn
 // ---- other codes that use no scratch word
 
 // Arithmetic; what it breaks at is left for the general loop.
-fn alu_turn(low: u32, k: u32, a: u32, x: u32) -> Turn
-    requires { ⌜ low % 8 ≡ 4 ⌝ }
-    ensures { λ r. ⌜ Anywhere low k a x r ⌝ }
+fn alu_turn(op: u32, a: u32, v: u32, x: u32) -> Turn
+    ensures { λ r. ⌜ Settles (M.alu op a v) a x r ⌝ }
 {
-    let e = alu(low / 16 % 16, a, choose(low / 8 % 2, k, x));
+    let e = alu(op, a, v);
     match e {
-        Effect::SetA(v) => go(Way::On, v, x),
+        Effect::SetA(sum) => go(Way::On, sum, x),
         _ => go(Way::Other, a, x),
     }
 }
 
-fn misc_turn(low: u32, k: u32, a: u32, x: u32) -> Turn
-    requires { ⌜ low % 8 ≡ 7 ⌝ }
-    ensures { λ r. ⌜ Anywhere low k a x r ⌝ }
-{
-    if low / 128 % 2 == 0 {
-        go(Way::On, a, a)
-    } else {
-        go(Way::On, x, x)
-    }
-}
-
-// By the class in the code.
 fn rest_turn(low: u32, k: u32, a: u32, x: u32) -> Turn
     ensures { λ r. ⌜ Anywhere low k a x r ⌝ }
 {
-    let class = low % 8;
-    match class {
-        4 => alu_turn(low, k, a, x),
-        6 => finish(choose(low / 16 % 2, k, a), a, x),
-        7 => misc_turn(low, k, a, x),
+    match low {
+        0x04 => alu_turn(0, a, k, x),
+        0x0c => alu_turn(0, a, x, x),
+        0x14 => alu_turn(1, a, k, x),
+        0x1c => alu_turn(1, a, x, x),
+        0x24 => alu_turn(2, a, k, x),
+        0x2c => alu_turn(2, a, x, x),
+        0x34 => alu_turn(3, a, k, x),
+        0x3c => alu_turn(3, a, x, x),
+        0x44 => alu_turn(4, a, k, x),
+        0x4c => alu_turn(4, a, x, x),
+        0x5c => alu_turn(5, a, x, x),
+        0x64 => alu_turn(6, a, k, x),
+        0x6c => alu_turn(6, a, x, x),
+        0x74 => alu_turn(7, a, k, x),
+        0x7c => alu_turn(7, a, x, x),
+        0x84 => alu_turn(8, a, k, x),
+        0x8c => alu_turn(8, a, x, x),
+        0xa4 => alu_turn(10, a, k, x),
+        0xac => alu_turn(10, a, x, x),
+        0x07 => go(Way::On, a, a),
+        0x87 => go(Way::On, x, x),
+        0x16 => finish(a, a, x),
         _ => go(Way::Other, a, x),
     }
 }
