@@ -41,7 +41,8 @@ pub enum Effect {
     Stop(Verdict),
 }
 
-// How a run goes on: with the instruction that follows, by k, jt or jf, by the jt or jf of a test that follows a load; it ends; or the code is another than the generator's, and nothing is done yet.
+// How a run goes on: with the instruction that follows, by k, jt or jf, by the jt or jf of a test that follows a load; it ends;
+// or the code is one that the first loop does not know, and nothing is done yet.
 pub enum Way {
     On,
     Jump,
@@ -319,6 +320,12 @@ fn effect_of(
     }
 }
 
+fn ended(verdict: Verdict, steps: u32) -> Outcome
+    ensures { λ r. ⌜ r ≡ M.ended verdict steps ⌝ }
+{
+    Outcome { verdict, steps }
+}
+
 // The run from a counter on, with any code; the scratch words are still zero.
 fn general(program: &[u8], frame: &[u8], start: usize, a0: u32, x0: u32, steps0: u32) -> Outcome
     requires { ⌜ (length (now program) ≤ 32768) × (length (now frame) ≤ 65535) × (steps0 ≤ start) × (start ≤ 4096) ⌝ }
@@ -354,20 +361,14 @@ fn general(program: &[u8], frame: &[u8], start: usize, a0: u32, x0: u32, steps0:
                 if slot < 16 {
                     scratch[slot] = v;
                 } else {
-                    return Outcome {
-                        verdict: Verdict::Broken,
-                        steps,
-                    };
+                    return ended(Verdict::Broken, steps);
                 }
             }
             Effect::Skip(d) => pc += d as usize,
-            Effect::Stop(v) => return Outcome { verdict: v, steps },
+            Effect::Stop(v) => return ended(v, steps),
         }
     }
-    Outcome {
-        verdict: Verdict::Broken,
-        steps,
-    }
+    ended(Verdict::Broken, steps)
 }
 
 // ---- the codes that the generator emits
@@ -511,6 +512,7 @@ fn alu_turn(op: u32, a: u32, v: u32, x: u32) -> Turn
     }
 }
 
+// By the code.
 fn rest_turn(low: u32, k: u32, a: u32, x: u32) -> Turn
     ensures { λ r. ⌜ Anywhere low k a x r ⌝ }
 {
@@ -575,7 +577,7 @@ fn skipped(program: &[u8], at: usize) -> usize
     8 * (wide(program[at]) as usize)
 }
 
-// A whole run; the scratch words stay zero until a code comes that is not the generator's.
+// A whole run; the scratch words stay zero until a code comes that this loop does not know.
 fn quick(program: &[u8], frame: &[u8]) -> Outcome
     requires { ⌜ (length (now program) ≤ 32768) × (length (now program) % 8 ≡ 0) × (length (now frame) ≤ 65535) ⌝ }
     ensures { λ r. ⌜ r ≡ from (now (program .entry)) (now (frame .entry)) 0 0 0 0 (replicate 16 0) ⌝ }
@@ -615,25 +617,13 @@ fn quick(program: &[u8], frame: &[u8]) -> Outcome
                 steps += 2;
                 at += 16 + skipped(program, at + 11);
             }
-            Way::Accepted => return Outcome {
-                verdict: Verdict::Accepted,
-                steps: steps + 1,
-            },
-            Way::Dropped => return Outcome {
-                verdict: Verdict::Dropped,
-                steps: steps + 1,
-            },
-            Way::Short => return Outcome {
-                verdict: Verdict::Short,
-                steps: steps + 1,
-            },
+            Way::Accepted => return ended(Verdict::Accepted, steps + 1),
+            Way::Dropped => return ended(Verdict::Dropped, steps + 1),
+            Way::Short => return ended(Verdict::Short, steps + 1),
             Way::Other => return general(program, frame, at / 8, a, x, steps),
         }
     }
-    Outcome {
-        verdict: Verdict::Broken,
-        steps,
-    }
+    ended(Verdict::Broken, steps)
 }
 
 // A program's length that is refused: 0, over 32,768, or not a multiple of 8.

@@ -45,16 +45,16 @@ loop-again-3 : tie.Need-loop-again-3 Inv-loop μ-loop
 loop-again-3 c = (omega arith, simp (lt-ltb _ _ (c .if1 .taken)) at (left (c .before .before .before .before) _ (c .before .before .e3 .given .1)))
 
 returns : tie.Need-returns Inv-loop μ-loop
-returns c = simp (le-ltb _ _ (c .if1 .left)) at (left (c .before .before .before .before) _ (c .before .before .e3 .given .1))
+returns c = c .ended .ensures ∙ simp (le-ltb _ _ (c .before .if1 .left)) at (left (c .before .before .before .before .before) _ (c .before .before .before .e3 .given .1))
 
 loop-again-4 : tie.Need-loop-again-4 Inv-loop μ-loop
 loop-again-4 c = (omega arith, left (c .before .before .before) _ (c .before .e4 .given .1))
 
 returns-2 : tie.Need-returns-2 Inv-loop μ-loop
-returns-2 c = left (c .before .before .before) _ (c .before .e5 .given .1)
+returns-2 c = c .ended2 .ensures ∙ left (c .before .before .before .before) _ (c .before .before .e5 .given .1)
 
 returns-3 : tie.Need-returns-3 Inv-loop μ-loop
-returns-3 c = let l = c .before .loop in sym (run-past (c .before .before .before .before .args .program .now) (c .before .before .before .before .args .frame .now) (l .pc) (l .steps) (l .a) (l .x) (l .scratch) (c .loop-test .left)) ∙ l .inv .1
+returns-3 c = let l = c .before .before .loop in c .ended3 .ensures ∙ sym (run-past (c .before .before .before .before .before .args .program .now) (c .before .before .before .before .before .args .frame .now) (l .pc) (l .steps) (l .a) (l .x) (l .scratch) (c .before .loop-test .left)) ∙ l .inv .1
 
 pub general-spec : {M : Type 1} → statement M
 general-spec =
@@ -87,6 +87,7 @@ general-spec =
     (λ c. search needs)
     (λ c. search needs)
     loop-again-3
+    (λ c κs. search needs)
     returns
     (λ c. search needs)
     (λ c. search needs)
@@ -94,5 +95,7 @@ general-spec =
     (λ c. search needs)
     loop-again-4
     (λ c. search needs)
+    (λ c κs. search needs)
     returns-2
+    (λ c κs. search needs)
     returns-3)

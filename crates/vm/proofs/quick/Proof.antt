@@ -59,19 +59,19 @@ loop-again-6 : tie.Need-loop-again-6 Inv-loop μ-loop
 loop-again-6 c = let s = c .before .before .before .before .before .before .before .before .args .program .now in let r = c .before .before .before .turn-of .result in (omega (arith, c .skipped4 .ensures .0), omega (arith, c .skipped4 .ensures .0), moved s (c .before .before .before .before .before .before .before .before .args .frame .now) ((c .before .before .before .before .before .loop .at + (16 + c .skipped4 .result)) / 8) (c .before .before .before .before .before .loop .at / 8 + 2 + getD s (c .before .before .before .before .before .loop .at + 11) 0) (c .before .before .before .before .before .loop .steps + 2) (r .a) (r .x) (omega (arith, c .skipped4 .ensures .0)) (left (c .before .before .before) NextMissed (c .before .enum-told6 .given .1)))
 
 returns : tie.Need-returns Inv-loop μ-loop
-returns c = left (c .before .before) Accepted (c .enum-told7 .given .1)
+returns c = c .ended .ensures ∙ left (c .before .before .before) Accepted (c .before .enum-told7 .given .1)
 
 returns-2 : tie.Need-returns-2 Inv-loop μ-loop
-returns-2 c = left (c .before .before) Dropped (c .enum-told8 .given .1)
+returns-2 c = c .ended2 .ensures ∙ left (c .before .before .before) Dropped (c .before .enum-told8 .given .1)
 
 returns-3 : tie.Need-returns-3 Inv-loop μ-loop
-returns-3 c = left (c .before .before) Short (c .enum-told9 .given .1)
+returns-3 c = c .ended3 .ensures ∙ left (c .before .before .before) Short (c .before .enum-told9 .given .1)
 
 returns-4 : tie.Need-returns-4 Inv-loop μ-loop
 returns-4 c = c .general .ensures ∙ left (c .before .before .before) Other (c .before .enum-told10 .given .1)
 
 returns-5 : tie.Need-returns-5 Inv-loop μ-loop
-returns-5 c = let l = c .before .loop in sym (run-past (c .before .before .before .before .args .program .now) (c .before .before .before .before .args .frame .now) (l .at / 8) (l .steps) (l .a) (l .x) zeros (omega arith)) ∙ l .inv .2
+returns-5 c = let l = c .before .before .loop in c .ended4 .ensures ∙ sym (run-past (c .before .before .before .before .before .args .program .now) (c .before .before .before .before .before .args .frame .now) (l .at / 8) (l .steps) (l .a) (l .x) zeros (omega arith)) ∙ l .inv .2
 
 pub quick-spec : {M : Type 1} → statement M
 quick-spec =
@@ -130,14 +130,18 @@ quick-spec =
     loop-again-6
     (λ c. search needs)
     (λ c. search needs)
+    (λ c κs. search needs)
     returns
     (λ c. search needs)
     (λ c. search needs)
+    (λ c κs. search needs)
     returns-2
     (λ c. search needs)
     (λ c. search needs)
+    (λ c κs. search needs)
     returns-3
     (λ c. search needs)
     (λ c κs. search needs)
     returns-4
+    (λ c κs. search needs)
     returns-5)
