@@ -1,4 +1,5 @@
--- The run of a program's bytes from a counter on, as the loops of the code take it up.
+-- The run of a program's bytes from a counter on, as the loops of the code take it up. These are promises between the functions of the code;
+-- what `run` answers is said without them, in Machine.
 use Prim.Native.Nat.{ℕ, _+_, _/_, _%_, _≤_, _<_}
 use mathlib.Core.Path.{_≡_}
 use mathlib.Core.List.{List}
