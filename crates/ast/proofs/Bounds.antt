@@ -11,10 +11,10 @@ use Rattle.bpf.specs.Bytes.{be, AreBytes, bytesAt, segmentsAt}
 use Rattle.bpf.proofs.Bytes.{be-small}
 use Rattle.bpf.proofs.Parts.{length-bytes, length-segments, bytes-are, segments-small, take-bytes}
 use Rattle.bpf.specs.Program.{Each}
-use Rattle.ast.specs.Tree.{Ip, Expr, Leaf, And, Or, Not}
+use Rattle.ast.specs.Tree.{Ip, Expr, Leaf, And, Or, Not, records}
 use Rattle.ast.specs.Record.{Record, recordAt, protos, protoOf, Node, AndNode, OrNode, NotNode, LeafNode, Kind, kinds, good, nodeBy, nodeAt}
 use Rattle.ast.specs.File.{header, countOf, nodesAt, Filter, parse}
-use Rattle.ast.proofs.Proper.{Byte, Half, Word, ProperProto, ProperPrimitive, Proper, records}
+use Rattle.ast.proofs.Proper.{Byte, Half, Word, ProperProto, ProperPrimitive, Proper}
 use Rattle.ast.proofs.Prefix.{prefix}
 use Rattle.ast.proofs.Walk.{counted, parsed, parse-records}
 

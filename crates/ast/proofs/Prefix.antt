@@ -6,10 +6,9 @@ use native.Mathlib.Omega.{arith}
 use lib.ListN.{length, length-append}
 use Rattle.error.specs.Answer.{done, _>>=_}
 use Rattle.error.proofs.All.{All, all-bind}
-use Rattle.ast.specs.Tree.{Expr, Leaf, And, Or, Not}
+use Rattle.ast.specs.Tree.{Expr, Leaf, And, Or, Not, records}
 use Rattle.ast.specs.Record.{Node, AndNode, OrNode, NotNode, LeafNode}
 use Rattle.ast.specs.File.{grow, treesOf, only}
-use Rattle.ast.proofs.Proper.{records}
 
 abbrev pub prefix : Expr → List Node
 prefix (Leaf p) = LeafNode p ∷ []

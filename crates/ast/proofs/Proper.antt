@@ -1,4 +1,4 @@
--- The bounds on a tree's numbers that its file gives them, and the number of its records.
+-- The bounds on a tree's numbers that its file gives them.
 use Prim.Native.Nat.{ℕ, zero, suc, _+_, _^_, _<_}
 use mathlib.Core.Path.{_≡_}
 use mathlib.Core.List.{List, [], _∷_}
@@ -55,12 +55,6 @@ Proper (Leaf p) = ProperPrimitive p
 Proper (And l r) = Proper l × Proper r
 Proper (Or l r) = Proper l × Proper r
 Proper (Not t) = Proper t
-
-abbrev pub records : Expr → ℕ
-records (Leaf p) = 1
-records (And l r) = suc (records l + records r)
-records (Or l r) = suc (records l + records r)
-records (Not t) = suc (records t)
 
 -- a list of bytes, as the laws of numbers take it
 pub each-bytes : (a : List ℕ) → Each Byte a → AreBytes a

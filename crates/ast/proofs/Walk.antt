@@ -9,10 +9,9 @@ use Rattle.error.specs.Answer.{Out, refused, done, _>>=_}
 use Rattle.error.proofs.All.{All, all-bind, all-cond}
 use Rattle.error.proofs.Either.{neither}
 use Rattle.ast.specs.declared.LinkType.{LinkType}
-use Rattle.ast.specs.Tree.{Expr, Leaf, And, Or, Not}
+use Rattle.ast.specs.Tree.{Expr, Leaf, And, Or, Not, records}
 use Rattle.ast.specs.Record.{Node, AndNode, OrNode, NotNode, LeafNode, nodeAt}
 use Rattle.ast.specs.File.{header, countOf, count, nodesAt, treesOf, only, Filter, parse}
-use Rattle.ast.proofs.Proper.{records}
 use Rattle.ast.proofs.Prefix.{prefix, prefixes, prefix-length, prefixes-of, trees-prefixes}
 
 -- the node of a tree, and its parts before the trees that follow

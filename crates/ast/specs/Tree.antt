@@ -1,5 +1,5 @@
 -- The filter tree: ast.rs `Expr`, `Primitive`, `Proto`, as far as a tree file can name them.
-use Prim.Native.Nat.{ℕ}
+use Prim.Native.Nat.{ℕ, suc, _+_}
 use mathlib.Core.List.{List}
 use mathlib.Core.Option.{Option}
 use Rattle.ast.specs.declared.Dir.{Dir}
@@ -31,3 +31,10 @@ pub data Expr : Type 0 where
   Leaf : Primitive → Expr
   And Or : Expr → Expr → Expr
   Not : Expr → Expr
+
+-- how many records a tree has in a file
+abbrev pub records : Expr → ℕ
+records (Leaf p) = 1
+records (And l r) = suc (records l + records r)
+records (Or l r) = suc (records l + records r)
+records (Not t) = suc (records t)

@@ -16,8 +16,8 @@ use Rattle.vm.specs.declared.Outcome.{Outcome}
 use Rattle.vm.specs.Machine.{effect, exec, inner}
 use Rattle.ast.specs.declared.LinkType.{LinkType}
 use Rattle.ast.specs.declared.LinkType.the-variants.{Ethernet, RawIp, LinuxSll}
-use Rattle.ast.specs.Tree.{Expr, Leaf, And, Or, Not}
-use Rattle.ast.proofs.Proper.{Proper, records}
+use Rattle.ast.specs.Tree.{Expr, Leaf, And, Or, Not, records}
+use Rattle.ast.proofs.Proper.{Proper}
 use Rattle.codegen.specs.Block.{byte, half, word, ldAbs, ldhInd, ldxMsh, ldxImm, andK, jeq, jgt, jge, jset, success, failure, Exit, skip, leave, jt, jf, Line, op, test, ja}
 use Rattle.codegen.specs.Block.{Block, settle, distance, farLine, far, assemble}
 use Rattle.codegen.specs.Emit.{netOffset, emit}
