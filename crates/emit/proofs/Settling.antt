@@ -103,7 +103,7 @@ near-short B f h = near-settle failure 0 (B ++ (ja (leave success) ∷ [])) (rw 
 -- ---- resolving is settling
 
 -- the lines of a block between others, or too far
-abbrev image : List ℕ → List ℕ → Block → Patched
+abbrev pub image : List ℕ → List ℕ → Block → Patched
 image pre rest C = cond (far C) tooFar (patched (pre ++ (packs C ++ rest)))
 
 image-onto : (pre rest : List ℕ) (l : Line) (C : Block) → farLine l ≡ false → image (pre ++ (packed l ∷ [])) rest C ≡ image pre rest (l ∷ C)
@@ -114,49 +114,49 @@ image-far : (pre rest : List ℕ) (l : Line) (C : Block) → farLine l ≡ true 
 unfolding far
 image-far pre rest l C f = rw f
 
-module _ (e : Side) (pre rest : List ℕ) (B : Block) (p T : ℕ) (e₁ : length pre ≡ p) (e₂ : T ≡ p + suc (length B))
-    (ih : (w : ℕ) → resolve (places e (p + 1) B) T ((pre ++ (w ∷ [])) ++ (packs B ++ rest)) ≡ image (pre ++ (w ∷ [])) rest (settle e 0 B)) where
-  keep : (l : Line) → farLine l ≡ false → resolve (places e (p + 1) B) T (pre ++ (packed l ∷ (packs B ++ rest))) ≡ image pre rest (l ∷ settle e 0 B)
+module _ (e : Side) (pre rest : List ℕ) (B : Block) (p T d : ℕ) (e₁ : length pre ≡ p) (e₂ : T ≡ p + suc (length B) + d)
+    (ih : (w : ℕ) → resolve (places e (p + 1) B) T ((pre ++ (w ∷ [])) ++ (packs B ++ rest)) ≡ image (pre ++ (w ∷ [])) rest (settle e d B)) where
+  keep : (l : Line) → farLine l ≡ false → resolve (places e (p + 1) B) T (pre ++ (packed l ∷ (packs B ++ rest))) ≡ image pre rest (l ∷ settle e d B)
   keep l f =
       ap (resolve (places e (p + 1) B) T) (sym (append-assoc pre (packed l ∷ []) (packs B ++ rest)))
       ∙ ih (packed l)
-      ∙ image-onto pre rest l (settle e 0 B) f
+      ∙ image-onto pre rest l (settle e d B) f
 
-  hit : (l l′ : Line) → (length B + 0 ≤ 255 → withDistance (packed l) (length B + 0) ≡ packed l′) → (b : Bool) → ltb 255 (length B + 0) ≡ b → farLine l′ ≡ b
-      → resolve (p ∷ places e (p + 1) B) T (pre ++ (packed l ∷ (packs B ++ rest))) ≡ image pre rest (l′ ∷ settle e 0 B)
+  hit : (l l′ : Line) → (length B + d ≤ 255 → withDistance (packed l) (length B + d) ≡ packed l′) → (b : Bool) → ltb 255 (length B + d) ≡ b → farLine l′ ≡ b
+      → resolve (p ∷ places e (p + 1) B) T (pre ++ (packed l ∷ (packs B ++ rest))) ≡ image pre rest (l′ ∷ settle e d B)
   hit l l′ q false t f =
-      let d : T - p - 1 ≡ length B + 0 = omega arith in
-      let le : length B + 0 ≤ 255 = ltb-false 255 (length B + 0) t in
-      near-cons p (places e (p + 1) B) T (pre ++ (packed l ∷ (packs B ++ rest))) (rw d le)
-      ∙ rw (d, getD-at pre (packed l) (packs B ++ rest) 0 p e₁, set-at pre (packed l) (packs B ++ rest) (withDistance (packed l) (length B + 0)) p e₁, q le)
+      let z : T - p - 1 ≡ length B + d = omega arith in
+      let le : length B + d ≤ 255 = ltb-false 255 (length B + d) t in
+      near-cons p (places e (p + 1) B) T (pre ++ (packed l ∷ (packs B ++ rest))) (rw z le)
+      ∙ rw (z, getD-at pre (packed l) (packs B ++ rest) 0 p e₁, set-at pre (packed l) (packs B ++ rest) (withDistance (packed l) (length B + d)) p e₁, q le)
       (keep l′ f)
   hit l l′ q true t f =
-      let d : T - p - 1 ≡ length B + 0 = omega arith in
-      far-cons p (places e (p + 1) B) T (pre ++ (packed l ∷ (packs B ++ rest))) (rw d (ltb-true 255 (length B + 0) t)) ∙ image-far pre rest l′ (settle e 0 B) f
+      let z : T - p - 1 ≡ length B + d = omega arith in
+      far-cons p (places e (p + 1) B) T (pre ++ (packed l ∷ (packs B ++ rest))) (rw z (ltb-true 255 (length B + d) t)) ∙ image-far pre rest l′ (settle e d B) f
 
-  leave-law : (b : Bool) (F : Exit → Line) (q : Side) → farLine (F (leave q)) ≡ false → farLine (F (skip (length B + 0))) ≡ ltb 255 (length B + 0)
-      → (length B + 0 ≤ 255 → withDistance (packed (F (leave q))) (length B + 0) ≡ packed (F (skip (length B + 0))))
+  leave-law : (b : Bool) (F : Exit → Line) (q : Side) → farLine (F (leave q)) ≡ false → farLine (F (skip (length B + d))) ≡ ltb 255 (length B + d)
+      → (length B + d ≤ 255 → withDistance (packed (F (leave q))) (length B + d) ≡ packed (F (skip (length B + d))))
       → resolve (cond b (p ∷ places e (p + 1) B) (places e (p + 1) B)) T (pre ++ (packed (F (leave q)) ∷ (packs B ++ rest)))
-      ≡ image pre rest (F (cond b (skip (length B + 0)) (leave q)) ∷ settle e 0 B)
-  leave-law true F q f g z = hit (F (leave q)) (F (skip (length B + 0))) z (ltb 255 (length B + 0)) refl g
-  leave-law false F q f g z = keep (F (leave q)) f
+      ≡ image pre rest (F (cond b (skip (length B + d)) (leave q)) ∷ settle e d B)
+  leave-law true F q f g y = hit (F (leave q)) (F (skip (length B + d))) y (ltb 255 (length B + d)) refl g
+  leave-law false F q f g y = keep (F (leave q)) f
 
   line-law : (l : Line) → farLine l ≡ false
-      → resolve (places e p (l ∷ B)) T (pre ++ (packed l ∷ (packs B ++ rest))) ≡ image pre rest (swapLine e (skip (length B + 0)) l ∷ settle e 0 B)
+      → resolve (places e p (l ∷ B)) T (pre ++ (packed l ∷ (packs B ++ rest))) ≡ image pre rest (swapLine e (skip (length B + d)) l ∷ settle e d B)
   line-law (op o) f = keep (op o) f
   line-law (test t k s (skip n)) f = keep (test t k s (skip n)) f
-  line-law (test t k s (leave q)) f = leave-law (same e q) (λ x. test t k s x) q f refl (put-test t k s q (length B + 0))
+  line-law (test t k s (leave q)) f = leave-law (same e q) (λ x. test t k s x) q f refl (put-test t k s q (length B + d))
   line-law (ja (skip n)) f = keep (ja (skip n)) f
-  line-law (ja (leave q)) f = leave-law (same e q) (λ x. ja x) q f refl (put-ja q (length B + 0))
+  line-law (ja (leave q)) f = leave-law (same e q) (λ x. ja x) q f refl (put-ja q (length B + d))
 
-law : (e : Side) (pre rest : List ℕ) (B : Block) (p T : ℕ) → far B ≡ false → length pre ≡ p → T ≡ p + length B
-    → resolve (places e p B) T (pre ++ (packs B ++ rest)) ≡ image pre rest (settle e 0 B)
+pub law : (e : Side) (pre rest : List ℕ) (B : Block) (p T d : ℕ) → far B ≡ false → length pre ≡ p → T ≡ p + length B + d
+    → resolve (places e p B) T (pre ++ (packs B ++ rest)) ≡ image pre rest (settle e d B)
 unfolding settle resolve far
-law e pre rest [] p T f e₁ e₂ = refl
-law e pre rest (l ∷ B) p T f e₁ e₂ =
+law e pre rest [] p T d f e₁ e₂ = refl
+law e pre rest (l ∷ B) p T d f e₁ e₂ =
     let c = near-cut l B f in
-    line-law e pre rest B p T e₁ e₂
-    (λ w. law e (pre ++ (w ∷ [])) rest B (p + 1) T (c .1) (length-append pre (w ∷ []) ∙ ap (λ (n : ℕ). n + 1) e₁) (omega arith))
+    line-law e pre rest B p T d e₁ e₂
+    (λ w. law e (pre ++ (w ∷ [])) rest B (p + 1) T d (c .1) (length-append pre (w ∷ []) ∙ ap (λ (n : ℕ). n + 1) e₁) (omega arith))
     l (c .0)
 
 -- ---- the places of a block are before its end
@@ -169,18 +169,18 @@ below-exit e p T (leave q) x h b = go (same e q)
     go true = (h, b)
     go false = b
 
-below-places : (e : Side) (p T : ℕ) (B : Block) → p + length B ≤ T → Below T (places e p B)
+pub below-places : (e : Side) (p T : ℕ) (B : Block) → p + length B ≤ T → Below T (places e p B)
 below-places e p T [] h = tt
 below-places e p T (l ∷ B) h = below-exit e p T (exitOf l) (places e (p + 1) B) (omega arith) (below-places e (p + 1) T B (omega arith))
 
 -- ---- a block that was added
 
 module _ {B : Block} {I Y N I₁ Y₁ N₁ : List ℕ} {s t : Patches} (g : Grew B I Y N s I₁ Y₁ N₁ t) where
-  success-segment : s .success ≤ length Y → slice (s .success) (t .success) Y₁ ≡ places success (s .insns) B
+  pub success-segment : s .success ≤ length Y → slice (s .success) (t .success) Y₁ ≡ places success (s .insns) B
   success-segment h =
       ap (drop (s .success)) (g .won) ∙ drop-at (take (s .success) Y) (places success (s .insns) B) (s .success) (length-take-le (s .success) Y h)
 
-  failure-segment : s .failure ≤ length N → slice (s .failure) (t .failure) N₁ ≡ places failure (s .insns) B
+  pub failure-segment : s .failure ≤ length N → slice (s .failure) (t .failure) N₁ ≡ places failure (s .insns) B
   failure-segment h =
       ap (drop (s .failure)) (g .lost) ∙ drop-at (take (s .failure) N) (places failure (s .insns) B) (s .failure) (length-take-le (s .failure) N h)
 
@@ -190,7 +190,7 @@ module _ {B : Block} {I Y N I₁ Y₁ N₁ : List ℕ} {s t : Patches} (g : Grew
   pub failure-below : s .failure ≤ length N → Below (t .insns) (slice (s .failure) (t .failure) N₁)
   failure-below h = rw (failure-segment h) (below-places failure (s .insns) (t .insns) B (omega (arith, g .insns)))
 
-  whole : I₁ ≡ take (s .insns) I ++ (packs B ++ drop (t .insns) I₁)
+  pub whole : I₁ ≡ take (s .insns) I ++ (packs B ++ drop (t .insns) I₁)
   whole =
       sym (take-append-drop (t .insns) I₁)
       ∙ ap (λ (x : List ℕ). x ++ drop (t .insns) I₁) (g .lines)
@@ -200,17 +200,17 @@ module _ {B : Block} {I Y N I₁ Y₁ N₁ : List ℕ} {s t : Patches} (g : Grew
       → resolve (places e (s .insns) B) (t .insns) I₁ ≡ image (take (s .insns) I) (drop (t .insns) I₁) (settle e 0 B)
   resolved e h =
       ap (resolve (places e (s .insns) B) (t .insns)) whole
-      ∙ law e (take (s .insns) I) (drop (t .insns) I₁) B (s .insns) (t .insns) (g .near) (length-take-le (s .insns) I h) (g .insns)
+      ∙ law e (take (s .insns) I) (drop (t .insns) I₁) B (s .insns) (t .insns) 0 (g .near) (length-take-le (s .insns) I h) (omega (arith, g .insns))
 
 -- a stack cut back to what it was before the block
 cut : (S S₁ x : List ℕ) (m n : ℕ) → m ≤ length S → m ≤ n → take n S₁ ≡ take m S ++ x → take m S₁ ≡ take m S ++ []
 cut S S₁ x m n h k e = sym (take-take m n S₁ k) ∙ ap (take m) e ∙ take-at (take m S) x m (length-take-le m S h) ∙ sym (append-nil (take m S))
 
-resolves-near : (b : Bool) (J I : List ℕ) (r : Bool) → Resolves (cond b tooFar (patched J)) I r → r ≡ not b
+pub resolves-near : (b : Bool) (J I : List ℕ) (r : Bool) → Resolves (cond b tooFar (patched J)) I r → r ≡ not b
 resolves-near true J I r q = q
 resolves-near false J I r q = q .0
 
-resolves-lines : (b : Bool) (J I : List ℕ) (r : Bool) → b ≡ false → Resolves (cond b tooFar (patched J)) I r → I ≡ J
+pub resolves-lines : (b : Bool) (J I : List ℕ) (r : Bool) → b ≡ false → Resolves (cond b tooFar (patched J)) I r → I ≡ J
 resolves-lines true J I r e q = absurd (true≢false e)
 resolves-lines false J I r e q = q .1
 

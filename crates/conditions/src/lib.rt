@@ -1,0 +1,688 @@
+// The conditions but ports: codegen.rs `emit_ethertype` to `emit_ip6_multicast`.
+use ast::Dir;
+use ast::LinkType;
+use codegen::Facts;
+use codegen::Known;
+use emit::Emission;
+use emit::Emitted;
+use emit::Patches;
+use emit::check_byte;
+use emit::check_halfword;
+use emit::check_word;
+use emit::need;
+use emit::otherwise;
+use emit::push;
+use emit::test_failure;
+use emit::test_success;
+use error::Refusal;
+ghost use mathlib.Core.Path.{_≡_};
+ghost use mathlib.Core.List.{[], _∷_, _++_};
+ghost use Prim.Native.Nat.{_+_, _≤_, _<_};
+ghost use lib.Bits.{bitAnd};
+ghost use Rattle.codegen.specs.Block.{half, word, ldAbs, andK, op};
+ghost use Rattle.ast.specs.Tree.{EtherMulticast, IpBroadcast, IpMulticast, Ip6Multicast};
+ghost use Rattle.codegen.specs.Block as B;
+ghost use Rattle.codegen.specs.Emit as E;
+ghost use Rattle.emit.specs.Grown.{Room, Space, Place, Put, PutFailure, Grew, Reply, ReplyFailure};
+ghost use Rattle.conditions.specs.Loads as L;
+
+// What a load is masked with.
+pub enum Mask {
+    Whole,
+    Under(u32),
+}
+
+// A test of several loads: the segments of an IPv6 address as far as a prefix, a port range, or an ether address.
+pub enum Shape {
+    Segments,
+    Range,
+    Mac,
+}
+
+// Its numbers: the segments and the prefix; low and high; the first four bytes and the last two.
+pub struct Wanted {
+    pub segments: [u16; 8],
+    pub low: u32,
+    pub high: u32,
+}
+
+pub enum Version {
+    V4,
+    V6,
+}
+
+// The place of the ethertype.
+pub enum Offset {
+    Absent,
+    At(u32),
+}
+
+// ---- by link and by version
+
+pub fn net_offset(link: LinkType) -> u32
+    ensures { λ r. ⌜ (r ≡ E.netOffset link) × (r ≤ 16) ⌝ }
+{
+    match link {
+        LinkType::Ethernet => 14,
+        LinkType::RawIp => 0,
+        LinkType::LinuxSll => 16,
+    }
+}
+
+pub fn ether_proto_offset(link: LinkType) -> Offset
+    ensures { λ r. ⌜ r ≡ L.offsetOf (E.etherProtoOffset link) ⌝ }
+{
+    match link {
+        LinkType::Ethernet => Offset::At(12),
+        LinkType::RawIp => Offset::Absent,
+        LinkType::LinuxSll => Offset::At(14),
+    }
+}
+
+pub fn is_raw(link: LinkType) -> bool
+    ensures { λ r. ⌜ r ≡ E.isRaw link ⌝ }
+{
+    match link {
+        LinkType::Ethernet => false,
+        LinkType::RawIp => true,
+        LinkType::LinuxSll => false,
+    }
+}
+
+fn ether_of(version: Version) -> u32
+    ensures { λ r. ⌜ r ≡ L.etherOf version ⌝ }
+{
+    match version {
+        Version::V4 => 0x0800,
+        Version::V6 => 0x86dd,
+    }
+}
+
+// Where the protocol stands after the network header's start.
+pub fn proto_place(version: Version) -> u32
+    ensures { λ r. ⌜ (r ≡ L.protoPlace version) × (r ≤ 9) ⌝ }
+{
+    match version {
+        Version::V4 => 9,
+        Version::V6 => 6,
+    }
+}
+
+pub fn proto_fact(version: Version, facts: Facts) -> Known
+    ensures { λ r. ⌜ r ≡ L.protoFact version facts ⌝ }
+{
+    match version {
+        Version::V4 => facts.ip4_proto,
+        Version::V6 => facts.ip6_nh,
+    }
+}
+
+pub fn learn_proto(version: Version, facts: Facts, n: u32) -> Facts
+    ensures { λ r. ⌜ r ≡ L.learnProto version facts n ⌝ }
+{
+    match version {
+        Version::V4 => facts::learn_ip4(facts, n),
+        Version::V6 => facts::learn_ip6(facts, n),
+    }
+}
+
+// ---- ethertype and protocol
+
+fn emit_ethertype_at(
+    insns: &mut [u64],
+    failure: &mut [u16],
+    p: Patches,
+    facts: Facts,
+    off: u32,
+    et: u32,
+) -> Emitted
+    requires { ⌜ Space 2 (now insns) (now failure) p (p .failure) ⌝ }
+    ensures { λ r. ⌜ L.EthertypeAt off et facts (now (insns .entry)) (now (failure .entry)) p (now (insns .exit)) (now (failure .exit)) r ⌝ }
+{
+    let known = facts.ethertype;
+    if facts::holds(known, et) {
+        return Emitted {
+            patches: p,
+            facts: facts,
+        };
+    }
+    let q = check_halfword(insns, failure, p, off, et);
+    let g = facts::learn_ethertype(facts, et);
+    Emitted {
+        patches: q,
+        facts: g,
+    }
+}
+
+pub fn emit_ethertype(
+    link: LinkType,
+    insns: &mut [u64],
+    failure: &mut [u16],
+    p: Patches,
+    facts: Facts,
+    et: u32,
+) -> Emission
+    requires { ⌜ Space 2 (now insns) (now failure) p (p .failure) ⌝ }
+    ensures { λ r. ⌜ ReplyFailure (E.emitEthertype link et facts) (now (insns .entry)) (now (failure .entry)) p (now (insns .exit)) (now (failure .exit)) r ⌝ }
+{
+    let offset = ether_proto_offset(link);
+    match offset {
+        Offset::Absent => {
+            if et == 0x0800 {
+                return Emission::Done(Emitted {
+                    patches: p,
+                    facts: facts,
+                });
+            }
+            Emission::Refused(Refusal::KindOnRaw)
+        }
+        Offset::At(off) => Emission::Done(emit_ethertype_at(insns, failure, p, facts, off, et)),
+    }
+}
+
+// The ethertype of a version and then its protocol: `emit_ip4_l4`, `emit_ip6_l4`.
+pub fn emit_l4(
+    link: LinkType,
+    insns: &mut [u64],
+    failure: &mut [u16],
+    p: Patches,
+    facts: Facts,
+    version: Version,
+    n: u32,
+) -> Emission
+    requires { ⌜ Space 4 (now insns) (now failure) p (p .failure) ⌝ }
+    ensures { λ r. ⌜ ReplyFailure (L.emitVersion link version n facts) (now (insns .entry)) (now (failure .entry)) p (now (insns .exit)) (now (failure .exit)) r ⌝ }
+{
+    let et = ether_of(version);
+    match emit_ethertype(link, insns, failure, p, facts, et) {
+        Emission::Refused(r) => Emission::Refused(r),
+        Emission::Done(e) => {
+            let q = e.patches;
+            let g = e.facts;
+            let known = proto_fact(version, g);
+            if facts::holds(known, n) {
+                return Emission::Done(e);
+            }
+            let off = net_offset(link) + proto_place(version);
+            let t = check_byte(insns, failure, q, off, n);
+            let h = learn_proto(version, g, n);
+            Emission::Done(Emitted {
+                patches: t,
+                facts: h,
+            })
+        }
+    }
+}
+
+// ---- one load, by direction
+
+fn push_load(insns: &mut [u64], p: Patches, code: u16, off: u32, mask: Mask) -> Patches
+    requires { ⌜ Place 2 (now insns) p × L.Absolute code off ⌝ }
+    ensures { λ r. ⌜ Put (L.load code off mask) (now (insns .entry)) p (now (insns .exit)) r ⌝ }
+{
+    let q = push(insns, p, code, off);
+    match mask {
+        Mask::Whole => q,
+        Mask::Under(m) => push(insns, q, 0x54, m),
+    }
+}
+
+fn check_load(
+    insns: &mut [u64],
+    failure: &mut [u16],
+    p: Patches,
+    code: u16,
+    off: u32,
+    mask: Mask,
+    k: u32,
+) -> Patches
+    requires { ⌜ Space 3 (now insns) (now failure) p (p .failure) × L.Absolute code off ⌝ }
+    ensures { λ r. ⌜ PutFailure (L.load code off mask ++ (E.need k ∷ [])) (now (insns .entry)) (now (failure .entry)) p (now (insns .exit)) (now (failure .exit)) r ⌝ }
+{
+    let q = push_load(insns, p, code, off, mask);
+    need(insns, failure, q, k)
+}
+
+// `check_addr4`: two loads, each compared with k, by direction. With either, the source test's jt is a success.
+pub fn check_addr4(
+    insns: &mut [u64],
+    success: &mut [u16],
+    failure: &mut [u16],
+    p: Patches,
+    dir: Dir,
+    code: u16,
+    src: u32,
+    dst: u32,
+    mask: Mask,
+    k: u32,
+) -> Patches
+    requires { ⌜ Room 6 (now insns) (now success) (now failure) p × L.Absolute code src × L.Absolute code dst ⌝ }
+    ensures { λ r. ⌜ Grew (E.checkLoads dir k (L.load code src mask) (L.load code dst mask)) (now (insns .entry)) (now (success .entry)) (now (failure .entry)) p (now (insns .exit)) (now (success .exit)) (now (failure .exit)) r ⌝ }
+{
+    match dir {
+        Dir::Src => check_load(insns, failure, p, code, src, mask, k),
+        Dir::Dst => check_load(insns, failure, p, code, dst, mask, k),
+        Dir::SrcAndDst => {
+            let q = check_load(insns, failure, p, code, src, mask, k);
+            check_load(insns, failure, q, code, dst, mask, k)
+        }
+        Dir::SrcOrDst => {
+            let q = push_load(insns, p, code, src, mask);
+            let t = test_success(insns, success, q, k);
+            check_load(insns, failure, t, code, dst, mask, k)
+        }
+    }
+}
+
+// ---- several loads, by direction
+
+const POWERS: [u32; 17] = [
+    1,
+    2,
+    4,
+    8,
+    16,
+    32,
+    64,
+    128,
+    256,
+    512,
+    1024,
+    2048,
+    4096,
+    8192,
+    16384,
+    32768,
+    65536,
+];
+
+// The mask of a segment's first p bits.
+fn mask16(p: u32) -> u32
+    requires { ⌜ p < 16 ⌝ }
+    ensures { λ r. ⌜ (r ≡ E.mask16 p) × (r < 65536) ⌝ }
+{
+    let i = (16 - p) as usize;
+    65536 - POWERS[i]
+}
+
+// A segment of which the first p bits count.
+fn check_part(
+    insns: &mut [u64],
+    failure: &mut [u16],
+    p: Patches,
+    bits: u32,
+    off: u32,
+    segment: u16,
+) -> Patches
+    requires { ⌜ Space 3 (now insns) (now failure) p (p .failure) × (bits < 16) ⌝ }
+    ensures { λ r. ⌜ PutFailure (op (ldAbs half off) ∷ op (andK (E.mask16 bits)) ∷ E.need (bitAnd segment (E.mask16 bits)) ∷ []) (now (insns .entry)) (now (failure .entry)) p (now (insns .exit)) (now (failure .exit)) r ⌝ }
+{
+    let mask = mask16(bits);
+    let q = push(insns, p, 0x28, off);
+    let t = push(insns, q, 0x54, mask);
+    need(insns, failure, t, (segment as u32) & mask)
+}
+
+// `check_net6`: the segments of an address as far as the prefix reaches. All of them from 128 on: `check_ip6_addr`.
+fn check_net6(
+    insns: &mut [u64],
+    failure: &mut [u16],
+    p: Patches,
+    prefix: u32,
+    off: u32,
+    segments: [u16; 8],
+) -> Patches
+    requires { ⌜ Space 17 (now insns) (now failure) p (p .failure) × (off < 65536) ⌝ }
+    ensures { λ r. ⌜ PutFailure (E.checkNet6 prefix off segments) (now (insns .entry)) (now (failure .entry)) p (now (insns .exit)) (now (failure .exit)) r ⌝ }
+{
+    let mut t = p;
+    let mut i: usize = 0;
+    let mut left = prefix;
+    let mut at = off;
+    while i < 8 {
+        if left == 0 {
+            return t;
+        }
+        if left < 16 {
+            return check_part(insns, failure, t, left, at, segments[i]);
+        }
+        t = check_halfword(insns, failure, t, at, segments[i] as u32);
+        at += 2;
+        left -= 16;
+        i += 1;
+    }
+    t
+}
+
+// Low ≤ A ≤ high.
+fn check_range(
+    insns: &mut [u64],
+    failure: &mut [u16],
+    p: Patches,
+    lo: u32,
+    hi: u32,
+    off: u32,
+) -> Patches
+    requires { ⌜ Space 3 (now insns) (now failure) p (p .failure) ⌝ }
+    ensures { λ r. ⌜ PutFailure (E.checkRange lo hi off) (now (insns .entry)) (now (failure .entry)) p (now (insns .exit)) (now (failure .exit)) r ⌝ }
+{
+    let q = push(insns, p, 0x48, off);
+    let t = test_failure(insns, failure, q, 0x35, lo, 2);
+    test_failure(insns, failure, t, 0x25, hi, 1)
+}
+
+// Four bytes and then two.
+fn check_mac(
+    insns: &mut [u64],
+    failure: &mut [u16],
+    p: Patches,
+    four: u32,
+    two: u32,
+    off: u32,
+) -> Patches
+    requires { ⌜ Space 4 (now insns) (now failure) p (p .failure) × (off < 65536) ⌝ }
+    ensures { λ r. ⌜ PutFailure (E.check word off four ++ E.check half (off + 4) two) (now (insns .entry)) (now (failure .entry)) p (now (insns .exit)) (now (failure .exit)) r ⌝ }
+{
+    let q = check_word(insns, failure, p, off, four);
+    check_halfword(insns, failure, q, off + 4, two)
+}
+
+fn check_wanted(
+    insns: &mut [u64],
+    failure: &mut [u16],
+    p: Patches,
+    shape: Shape,
+    wanted: Wanted,
+    off: u32,
+) -> Patches
+    requires { ⌜ Space (L.most shape) (now insns) (now failure) p (p .failure) × (off < 65536) ⌝ }
+    ensures { λ r. ⌜ PutFailure (L.wanted shape wanted off) (now (insns .entry)) (now (failure .entry)) p (now (insns .exit)) (now (failure .exit)) r ⌝ }
+{
+    match shape {
+        Shape::Segments => {
+            let segments = wanted.segments;
+            check_net6(insns, failure, p, wanted.low, off, segments)
+        }
+        Shape::Range => check_range(insns, failure, p, wanted.low, wanted.high, off),
+        Shape::Mac => check_mac(insns, failure, p, wanted.low, wanted.high, off),
+    }
+}
+
+// Where the first address or port differs the second is tried.
+fn check_either(
+    insns: &mut [u64],
+    success: &mut [u16],
+    failure: &mut [u16],
+    p: Patches,
+    shape: Shape,
+    wanted: Wanted,
+    src: u32,
+    dst: u32,
+) -> Patches
+    requires { ⌜ Room (L.most shape + 1 + L.most shape) (now insns) (now success) (now failure) p × (src < 65536) × (dst < 65536) ⌝ }
+    ensures { λ r. ⌜ Grew (B.otherwise (L.wanted shape wanted src) ++ L.wanted shape wanted dst) (now (insns .entry)) (now (success .entry)) (now (failure .entry)) p (now (insns .exit)) (now (success .exit)) (now (failure .exit)) r ⌝ }
+{
+    let mark = p.failure;
+    let q = check_wanted(insns, failure, p, shape, wanted, src);
+    let settled = otherwise(insns, success, failure, q, mark);
+    let t = settled.patches;
+    check_wanted(insns, failure, t, shape, wanted, dst)
+}
+
+// Two tests by direction.
+pub fn check_sides(
+    insns: &mut [u64],
+    success: &mut [u16],
+    failure: &mut [u16],
+    p: Patches,
+    dir: Dir,
+    shape: Shape,
+    wanted: Wanted,
+    src: u32,
+    dst: u32,
+) -> Patches
+    requires { ⌜ Room (L.most shape + 1 + L.most shape) (now insns) (now success) (now failure) p × (src < 65536) × (dst < 65536) ⌝ }
+    ensures { λ r. ⌜ Grew (E.checkBlocks dir (L.wanted shape wanted src) (L.wanted shape wanted dst)) (now (insns .entry)) (now (success .entry)) (now (failure .entry)) p (now (insns .exit)) (now (success .exit)) (now (failure .exit)) r ⌝ }
+{
+    match dir {
+        Dir::Src => check_wanted(insns, failure, p, shape, wanted, src),
+        Dir::Dst => check_wanted(insns, failure, p, shape, wanted, dst),
+        Dir::SrcAndDst => {
+            let q = check_wanted(insns, failure, p, shape, wanted, src);
+            check_wanted(insns, failure, q, shape, wanted, dst)
+        }
+        Dir::SrcOrDst => check_either(insns, success, failure, p, shape, wanted, src, dst),
+    }
+}
+
+// ---- conditions
+
+// `emit_host4`, `emit_net`: a value under a mask, whole for a host.
+pub fn emit_net(
+    link: LinkType,
+    insns: &mut [u64],
+    success: &mut [u16],
+    failure: &mut [u16],
+    p: Patches,
+    facts: Facts,
+    dir: Dir,
+    mask: Mask,
+    k: u32,
+) -> Emission
+    requires { ⌜ Room 8 (now insns) (now success) (now failure) p ⌝ }
+    ensures { λ r. ⌜ Reply (E.guarded link 0x0800 (E.checkLoads dir k (L.load 0x20 (E.netOffset link + 12) mask) (L.load 0x20 (E.netOffset link + 16) mask)) facts) (now (insns .entry)) (now (success .entry)) (now (failure .entry)) p (now (insns .exit)) (now (success .exit)) (now (failure .exit)) r ⌝ }
+{
+    match emit_ethertype(link, insns, failure, p, facts, 0x0800) {
+        Emission::Refused(r) => Emission::Refused(r),
+        Emission::Done(e) => {
+            let q = e.patches;
+            let g = e.facts;
+            let n = net_offset(link);
+            let t = check_addr4(
+                insns,
+                success,
+                failure,
+                q,
+                dir,
+                0x20,
+                n + 12,
+                n + 16,
+                mask,
+                k,
+            );
+            Emission::Done(Emitted {
+                patches: t,
+                facts: g,
+            })
+        }
+    }
+}
+
+// `emit_host6`, `emit_net6`: the segments of an address as far as a prefix, 128 for a host.
+pub fn emit_net6(
+    link: LinkType,
+    insns: &mut [u64],
+    success: &mut [u16],
+    failure: &mut [u16],
+    p: Patches,
+    facts: Facts,
+    dir: Dir,
+    prefix: u32,
+    segments: [u16; 8],
+) -> Emission
+    requires { ⌜ Room 37 (now insns) (now success) (now failure) p ⌝ }
+    ensures { λ r. ⌜ Reply (E.guarded link 0x86dd (E.checkBlocks dir (E.checkNet6 prefix (E.netOffset link + 8) segments) (E.checkNet6 prefix (E.netOffset link + 24) segments)) facts) (now (insns .entry)) (now (success .entry)) (now (failure .entry)) p (now (insns .exit)) (now (success .exit)) (now (failure .exit)) r ⌝ }
+{
+    match emit_ethertype(link, insns, failure, p, facts, 0x86dd) {
+        Emission::Refused(r) => Emission::Refused(r),
+        Emission::Done(e) => {
+            let q = e.patches;
+            let g = e.facts;
+            let n = net_offset(link);
+            let wanted = Wanted {
+                segments: segments,
+                low: prefix,
+                high: 0,
+            };
+            let t = check_sides(
+                insns,
+                success,
+                failure,
+                q,
+                dir,
+                Shape::Segments,
+                wanted,
+                n + 8,
+                n + 24,
+            );
+            Emission::Done(Emitted {
+                patches: t,
+                facts: g,
+            })
+        }
+    }
+}
+
+// The destination is tested first.
+pub fn emit_ether_host(
+    link: LinkType,
+    insns: &mut [u64],
+    success: &mut [u16],
+    failure: &mut [u16],
+    p: Patches,
+    facts: Facts,
+    dir: Dir,
+    four: u32,
+    two: u32,
+) -> Emission
+    requires { ⌜ Room 9 (now insns) (now success) (now failure) p ⌝ }
+    ensures { λ r. ⌜ Reply (E.ether link (E.checkBlocks (L.turned dir) (L.macBlock four two 0) (L.macBlock four two 6)) facts) (now (insns .entry)) (now (success .entry)) (now (failure .entry)) p (now (insns .exit)) (now (success .exit)) (now (failure .exit)) r ⌝ }
+{
+    if is_raw(link) {
+        return Emission::Refused(Refusal::EtherOnRaw);
+    }
+    let wanted = Wanted {
+        segments: [0; 8],
+        low: four,
+        high: two,
+    };
+    let turned = turned(dir);
+    let t = check_sides(insns, success, failure, p, turned, Shape::Mac, wanted, 0, 6);
+    Emission::Done(Emitted {
+        patches: t,
+        facts: facts,
+    })
+}
+
+// Source and destination exchanged.
+fn turned(dir: Dir) -> Dir
+    ensures { λ r. ⌜ r ≡ L.turned dir ⌝ }
+{
+    match dir {
+        Dir::Src => Dir::Dst,
+        Dir::Dst => Dir::Src,
+        Dir::SrcAndDst => Dir::SrcAndDst,
+        Dir::SrcOrDst => Dir::SrcOrDst,
+    }
+}
+
+pub fn emit_ether_multicast(
+    link: LinkType,
+    insns: &mut [u64],
+    failure: &mut [u16],
+    p: Patches,
+    facts: Facts,
+) -> Emission
+    requires { ⌜ Space 2 (now insns) (now failure) p (p .failure) ⌝ }
+    ensures { λ r. ⌜ ReplyFailure (E.emitPrimitive link EtherMulticast facts) (now (insns .entry)) (now (failure .entry)) p (now (insns .exit)) (now (failure .exit)) r ⌝ }
+{
+    if is_raw(link) {
+        return Emission::Refused(Refusal::EtherOnRaw);
+    }
+    let q = push(insns, p, 0x30, 0);
+    let t = test_failure(insns, failure, q, 0x45, 1, 2);
+    Emission::Done(Emitted {
+        patches: t,
+        facts: facts,
+    })
+}
+
+pub fn emit_ip_broadcast(
+    link: LinkType,
+    insns: &mut [u64],
+    failure: &mut [u16],
+    p: Patches,
+    facts: Facts,
+) -> Emission
+    requires { ⌜ Space 4 (now insns) (now failure) p (p .failure) ⌝ }
+    ensures { λ r. ⌜ ReplyFailure (E.emitPrimitive link IpBroadcast facts) (now (insns .entry)) (now (failure .entry)) p (now (insns .exit)) (now (failure .exit)) r ⌝ }
+{
+    match emit_ethertype(link, insns, failure, p, facts, 0x0800) {
+        Emission::Refused(r) => Emission::Refused(r),
+        Emission::Done(e) => {
+            let q = e.patches;
+            let g = e.facts;
+            let t = check_word(insns, failure, q, net_offset(link) + 16, 0xffff_ffff);
+            Emission::Done(Emitted {
+                patches: t,
+                facts: g,
+            })
+        }
+    }
+}
+
+pub fn emit_ip_multicast(
+    link: LinkType,
+    insns: &mut [u64],
+    failure: &mut [u16],
+    p: Patches,
+    facts: Facts,
+) -> Emission
+    requires { ⌜ Space 5 (now insns) (now failure) p (p .failure) ⌝ }
+    ensures { λ r. ⌜ ReplyFailure (E.emitPrimitive link IpMulticast facts) (now (insns .entry)) (now (failure .entry)) p (now (insns .exit)) (now (failure .exit)) r ⌝ }
+{
+    match emit_ethertype(link, insns, failure, p, facts, 0x0800) {
+        Emission::Refused(r) => Emission::Refused(r),
+        Emission::Done(e) => {
+            let q = e.patches;
+            let g = e.facts;
+            let t = check_load(
+                insns,
+                failure,
+                q,
+                0x20,
+                net_offset(link) + 16,
+                Mask::Under(0xf000_0000),
+                0xe000_0000,
+            );
+            Emission::Done(Emitted {
+                patches: t,
+                facts: g,
+            })
+        }
+    }
+}
+
+pub fn emit_ip6_multicast(
+    link: LinkType,
+    insns: &mut [u64],
+    failure: &mut [u16],
+    p: Patches,
+    facts: Facts,
+) -> Emission
+    requires { ⌜ Space 4 (now insns) (now failure) p (p .failure) ⌝ }
+    ensures { λ r. ⌜ ReplyFailure (E.emitPrimitive link Ip6Multicast facts) (now (insns .entry)) (now (failure .entry)) p (now (insns .exit)) (now (failure .exit)) r ⌝ }
+{
+    match emit_ethertype(link, insns, failure, p, facts, 0x86dd) {
+        Emission::Refused(r) => Emission::Refused(r),
+        Emission::Done(e) => {
+            let q = e.patches;
+            let g = e.facts;
+            let t = check_byte(insns, failure, q, net_offset(link) + 24, 0xff);
+            Emission::Done(Emitted {
+                patches: t,
+                facts: g,
+            })
+        }
+    }
+}

@@ -1,0 +1,11 @@
+pub mod Zeros
+pub mod Fields
+pub mod Nodes
+pub mod Rows
+pub mod Here
+pub mod ByKind
+pub mod Heads
+pub mod Forests
+pub mod Bodies
+pub mod Checks
+pub mod Firsts

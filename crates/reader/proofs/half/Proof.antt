@@ -1,0 +1,13 @@
+use borrow.Author.Needs.{needs}
+use Rattle.reader.proofs.half.Statement.{statement}
+use Rattle.reader.proofs.half.Tie as tie
+use Rattle.bpf.proofs.Bytes.{be-half}
+use native.Mathlib.Omega.{arith}
+
+returns : tie.Need-returns
+returns c = rw be-half (omega arith)
+
+pub half-spec : {M : Type 1} → statement M
+half-spec =
+    tie.close
+    (tie.spec (λ c. search needs) (λ c. search needs) (λ c. search needs) (λ c κs. search needs) returns)
