@@ -45,13 +45,13 @@ pub record Sound (L : LinkType) (p : List Insn) : Type 0 where
 
 -- ---- size
 
-weight-records : (t : Expr) → weight t + 25 ≤ 60 * (suc (records t) / 2) + suc (records t)
+pub weight-records : (t : Expr) → weight t + 25 ≤ 60 * (suc (records t) / 2) + suc (records t)
 weight-records (Leaf p) = omega arith
 weight-records (And l r) = omega (arith, weight-records l, weight-records r)
 weight-records (Or l r) = omega (arith, weight-records l, weight-records r)
 weight-records (Not t) = omega (arith, weight-records t)
 
-weight-most : (t : Expr) → records t ≤ 128 → weight t ≤ 3944
+pub weight-most : (t : Expr) → records t ≤ 128 → weight t ≤ 3944
 weight-most t h = omega (arith, weight-records t)
 
 length-program : (b : Block) → length (programOf b) ≡ length b + 2

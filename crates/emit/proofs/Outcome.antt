@@ -85,11 +85,11 @@ module _ {o : Out Code} {I Y N I₁ Y₁ N₁ : List ℕ} {s : Patches} where
 never : {A : Type 0} → true ≡ false → A
 never e = let z : _≡_ {A = ℕ} 0 1 = cc in absurd (omega arith)
 
-far-not : (b r : Bool) → r ≡ not b → r ≡ true → b ≡ false
+pub far-not : (b r : Bool) → r ≡ not b → r ≡ true → b ≡ false
 far-not true r e p = never (sym p ∙ e)
 far-not false r e p = refl
 
-far-is : (b r : Bool) → r ≡ not b → r ≡ false → b ≡ true
+pub far-is : (b r : Bool) → r ≡ not b → r ≡ false → b ≡ true
 far-is true r e p = refl
 far-is false r e p = never (sym e ∙ p)
 
