@@ -8,32 +8,21 @@
 
 use std::hint::black_box;
 use std::io;
-use std::time::Instant;
 
 use bpf::Insn;
 
 #[allow(dead_code, unexpected_cfgs)]
 mod bpf;
+mod timing;
 #[allow(dead_code)]
 mod vm;
 
-// Moves the code that follows it: tools/bench/run builds several placements.
-std::arch::global_asm!(
-    ".globl bench_padding",
-    "bench_padding:",
-    concat!(".skip ", env!("BENCH_PADDING"), ", 0x90"),
-);
-
 extern "C" {
-    static bench_padding: u8;
     fn pft_run(program: *const u8, size: usize, frame: *const u8, length: usize) -> u32;
     // libpcap's struct bpf_insn has the layout of `Insn`.
     fn bpf_filter(program: *const Insn, frame: *const u8, wire: u32, length: u32) -> u32;
 }
 
-const ROUNDS: usize = 61;
-/// About what one turn takes, in ns.
-const TURN: u128 = 1_000_000;
 /// Frames drawn for a turn, to be run over again and again.
 const DRAWN: usize = 256;
 
@@ -164,29 +153,13 @@ fn drawn(frames: usize) -> Vec<usize> {
 /// Median and minimum of each of the three, in ns per run.
 fn timed(row: &Row) -> [[f64; 2]; 3] {
     let order = drawn(row.frames.len());
-    let once = |turn: usize, times| {
-        let start = Instant::now();
-        black_box(TURNS[turn](row, &order, times));
-        start.elapsed().as_nanos()
-    };
-    let times = [0, 1, 2].map(|t| {
-        let least = (0..5).map(|_| once(t, 1)).min().expect("five turns");
-        (TURN / least.max(1)).max(1) as usize
-    });
-    let mut samples = [const { Vec::new() }; 3];
-    for _ in 0..ROUNDS {
-        for t in 0..3 {
-            samples[t].push(once(t, times[t]) as f64 / (times[t] * DRAWN) as f64);
-        }
-    }
-    samples.map(|mut s| {
-        s.sort_by(f64::total_cmp);
-        [s[ROUNDS / 2], s[0]]
+    timing::timed(DRAWN, |t, times| {
+        black_box(TURNS[t](row, &order, times));
     })
 }
 
 fn main() {
-    black_box(unsafe { &bench_padding });
+    timing::place();
     for line in io::stdin().lines() {
         let row = row(&line.expect("text"));
         let steps = steps(&row);

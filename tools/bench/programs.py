@@ -159,4 +159,5 @@ def main():
         print(*row, *frames)
 
 
-main()
+if __name__ == "__main__":
+    main()

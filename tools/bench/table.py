@@ -46,4 +46,5 @@ def main():
     table("\nminimum of the rounds", placements, 3)
 
 
-main()
+if __name__ == "__main__":
+    main()

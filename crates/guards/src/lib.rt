@@ -10,6 +10,7 @@ ghost use lib.ListN.{length, getD};
 ghost use Rattle.ast.specs.Record.{portProtoOf};
 ghost use Rattle.ast.specs.File.{countOf};
 ghost use Rattle.codegen.specs.declared.Known.the-variants.{Unknown, Is};
+ghost use Rattle.codegen.specs.Facts as F;
 ghost use Rattle.codegen.specs.Guards as G;
 ghost use Rattle.reader.specs.Reader.{leafAt, Here, LeafHere};
 ghost use Rattle.guards.specs.Notes as N;
@@ -188,6 +189,14 @@ pub fn primitive_guards(tree: &[u8], i: usize) -> GuardSet
     }
 }
 
+// "A negated check proves nothing about what its parent requires", whatever the inner tree requires.
+fn negated(_inner: GuardSet) -> GuardSet
+    ensures { λ r. ⌜ r ≡ F.noGuards ⌝ }
+{
+    let none = facts::no_guards();
+    none
+}
+
 // The guards of the tree at record i, noted with those of every tree in it.
 pub fn required_guards(tree: &[u8], notes: &mut [u64], i: usize) -> Required
     requires { ⌜ Here (now tree) i × (5 * countOf (now tree) ≤ length (now notes)) ⌝ }
@@ -215,7 +224,8 @@ pub fn required_guards(tree: &[u8], notes: &mut [u64], i: usize) -> Required
         }
         3 => {
             let t = required_guards(tree, notes, i + 1);
-            let u = facts::no_guards();
+            let g = t.guards;
+            let u = negated(g);
             note(notes, i, u, t.next)
         }
         _ => {

@@ -17,8 +17,8 @@ use Rattle.guards.proofs.required_guards.Reads as required-guards
 use Rattle.guards.proofs.required_guards.Kinds as required-guards-kinds
 use Rattle.guards.proofs.+required_guards.Lts-required_guards as required-guards-lts
 use Rattle.facts.proofs.intersect.Reads as intersect-reads
-use Rattle.facts.proofs.no_guards.Reads as no-guards-reads
 use Rattle.facts.proofs.union.Reads as union-reads
+use Rattle.guards.proofs.negated.Reads as negated-reads
 use Rattle.guards.proofs.note.Reads as note-reads
 use Rattle.guards.proofs.primitive_guards.Reads as primitive-guards-reads
 use Rattle.reader.proofs.byte_at.Reads as byte-at-reads
@@ -55,8 +55,8 @@ required-guards-byte-at-requires : (t : ℕ) → required-guards-lts.Need-byte-a
   note-reads.Learnt,
   intersect-reads.Asked,
   intersect-reads.Learnt,
-  no-guards-reads.Asked,
-  no-guards-reads.Learnt,
+  negated-reads.Asked,
+  negated-reads.Learnt,
   primitive-guards-reads.Asked,
   primitive-guards-reads.Learnt,
 ) (required-guards-at t) required-guards.Post
@@ -73,8 +73,8 @@ required-guards-add-required-guards : (t : ℕ) → required-guards-lts.Need-add
   note-reads.Learnt,
   intersect-reads.Asked,
   intersect-reads.Learnt,
-  no-guards-reads.Asked,
-  no-guards-reads.Learnt,
+  negated-reads.Asked,
+  negated-reads.Learnt,
   primitive-guards-reads.Asked,
   primitive-guards-reads.Learnt,
 ) (required-guards-at t) required-guards.Post
@@ -91,8 +91,8 @@ required-guards-required-guards-requires : (t : ℕ) → required-guards-lts.Nee
   note-reads.Learnt,
   intersect-reads.Asked,
   intersect-reads.Learnt,
-  no-guards-reads.Asked,
-  no-guards-reads.Learnt,
+  negated-reads.Asked,
+  negated-reads.Learnt,
   primitive-guards-reads.Asked,
   primitive-guards-reads.Learnt,
 ) (required-guards-at t) required-guards.Post
@@ -109,8 +109,8 @@ required-guards-required-guards-requires-2 : (t : ℕ) → required-guards-lts.N
   note-reads.Learnt,
   intersect-reads.Asked,
   intersect-reads.Learnt,
-  no-guards-reads.Asked,
-  no-guards-reads.Learnt,
+  negated-reads.Asked,
+  negated-reads.Learnt,
   primitive-guards-reads.Asked,
   primitive-guards-reads.Learnt,
 ) (required-guards-at t) required-guards.Post
@@ -127,8 +127,8 @@ required-guards-note-requires : (t : ℕ) → required-guards-lts.Need-note-requ
   note-reads.Learnt,
   intersect-reads.Asked,
   intersect-reads.Learnt,
-  no-guards-reads.Asked,
-  no-guards-reads.Learnt,
+  negated-reads.Asked,
+  negated-reads.Learnt,
   primitive-guards-reads.Asked,
   primitive-guards-reads.Learnt,
 ) (required-guards-at t) required-guards.Post
@@ -145,8 +145,8 @@ required-guards-add-required-guards-2 : (t : ℕ) → required-guards-lts.Need-a
   note-reads.Learnt,
   intersect-reads.Asked,
   intersect-reads.Learnt,
-  no-guards-reads.Asked,
-  no-guards-reads.Learnt,
+  negated-reads.Asked,
+  negated-reads.Learnt,
   primitive-guards-reads.Asked,
   primitive-guards-reads.Learnt,
 ) (required-guards-at t) required-guards.Post
@@ -163,8 +163,8 @@ required-guards-required-guards-requires-3 : (t : ℕ) → required-guards-lts.N
   note-reads.Learnt,
   intersect-reads.Asked,
   intersect-reads.Learnt,
-  no-guards-reads.Asked,
-  no-guards-reads.Learnt,
+  negated-reads.Asked,
+  negated-reads.Learnt,
   primitive-guards-reads.Asked,
   primitive-guards-reads.Learnt,
 ) (required-guards-at t) required-guards.Post
@@ -181,8 +181,8 @@ required-guards-required-guards-requires-4 : (t : ℕ) → required-guards-lts.N
   note-reads.Learnt,
   intersect-reads.Asked,
   intersect-reads.Learnt,
-  no-guards-reads.Asked,
-  no-guards-reads.Learnt,
+  negated-reads.Asked,
+  negated-reads.Learnt,
   primitive-guards-reads.Asked,
   primitive-guards-reads.Learnt,
 ) (required-guards-at t) required-guards.Post
@@ -199,8 +199,8 @@ required-guards-note-requires-2 : (t : ℕ) → required-guards-lts.Need-note-re
   note-reads.Learnt,
   intersect-reads.Asked,
   intersect-reads.Learnt,
-  no-guards-reads.Asked,
-  no-guards-reads.Learnt,
+  negated-reads.Asked,
+  negated-reads.Learnt,
   primitive-guards-reads.Asked,
   primitive-guards-reads.Learnt,
 ) (required-guards-at t) required-guards.Post
@@ -217,8 +217,8 @@ required-guards-add-required-guards-3 : (t : ℕ) → required-guards-lts.Need-a
   note-reads.Learnt,
   intersect-reads.Asked,
   intersect-reads.Learnt,
-  no-guards-reads.Asked,
-  no-guards-reads.Learnt,
+  negated-reads.Asked,
+  negated-reads.Learnt,
   primitive-guards-reads.Asked,
   primitive-guards-reads.Learnt,
 ) (required-guards-at t) required-guards.Post
@@ -235,8 +235,8 @@ required-guards-required-guards-requires-5 : (t : ℕ) → required-guards-lts.N
   note-reads.Learnt,
   intersect-reads.Asked,
   intersect-reads.Learnt,
-  no-guards-reads.Asked,
-  no-guards-reads.Learnt,
+  negated-reads.Asked,
+  negated-reads.Learnt,
   primitive-guards-reads.Asked,
   primitive-guards-reads.Learnt,
 ) (required-guards-at t) required-guards.Post
@@ -253,12 +253,12 @@ required-guards-note-requires-3 : (t : ℕ) → required-guards-lts.Need-note-re
   note-reads.Learnt,
   intersect-reads.Asked,
   intersect-reads.Learnt,
-  no-guards-reads.Asked,
-  no-guards-reads.Learnt,
+  negated-reads.Asked,
+  negated-reads.Learnt,
   primitive-guards-reads.Asked,
   primitive-guards-reads.Learnt,
 ) (required-guards-at t) required-guards.Post
-required-guards-note-requires-3 t c κs = let h = c .before .before .before .before .before .before .before .before .before .before .pre .1 .0 in omega (arith, c .before .before .before .before .before .before .before .before .before .before .pre .1 .1, c .before .before .before .before .required-guards5 .kept)
+required-guards-note-requires-3 t c κs = let h = c .before .before .before .before .before .before .before .before .before .before .before .pre .1 .0 in omega (arith, c .before .before .before .before .before .before .before .before .before .before .before .pre .1 .1, c .before .before .before .before .before .required-guards5 .kept)
 
 required-guards-primitive-guards-requires : (t : ℕ) → required-guards-lts.Need-primitive-guards-requires (
   byte-at-reads.Asked,
@@ -271,8 +271,8 @@ required-guards-primitive-guards-requires : (t : ℕ) → required-guards-lts.Ne
   note-reads.Learnt,
   intersect-reads.Asked,
   intersect-reads.Learnt,
-  no-guards-reads.Asked,
-  no-guards-reads.Learnt,
+  negated-reads.Asked,
+  negated-reads.Learnt,
   primitive-guards-reads.Asked,
   primitive-guards-reads.Learnt,
 ) (required-guards-at t) required-guards.Post
@@ -289,8 +289,8 @@ required-guards-add-note : (t : ℕ) → required-guards-lts.Need-add-note (
   note-reads.Learnt,
   intersect-reads.Asked,
   intersect-reads.Learnt,
-  no-guards-reads.Asked,
-  no-guards-reads.Learnt,
+  negated-reads.Asked,
+  negated-reads.Learnt,
   primitive-guards-reads.Asked,
   primitive-guards-reads.Learnt,
 ) (required-guards-at t) required-guards.Post
@@ -307,8 +307,8 @@ required-guards-note-requires-4 : (t : ℕ) → required-guards-lts.Need-note-re
   note-reads.Learnt,
   intersect-reads.Asked,
   intersect-reads.Learnt,
-  no-guards-reads.Asked,
-  no-guards-reads.Learnt,
+  negated-reads.Asked,
+  negated-reads.Learnt,
   primitive-guards-reads.Asked,
   primitive-guards-reads.Learnt,
 ) (required-guards-at t) required-guards.Post
@@ -325,8 +325,8 @@ required-guards-returns : (t : ℕ) → required-guards-lts.Need-returns (
   note-reads.Learnt,
   intersect-reads.Asked,
   intersect-reads.Learnt,
-  no-guards-reads.Asked,
-  no-guards-reads.Learnt,
+  negated-reads.Asked,
+  negated-reads.Learnt,
   primitive-guards-reads.Asked,
   primitive-guards-reads.Learnt,
 ) (required-guards-at t) required-guards.Post
@@ -347,8 +347,8 @@ required-guards-returns-2 : (t : ℕ) → required-guards-lts.Need-returns-2 (
   note-reads.Learnt,
   intersect-reads.Asked,
   intersect-reads.Learnt,
-  no-guards-reads.Asked,
-  no-guards-reads.Learnt,
+  negated-reads.Asked,
+  negated-reads.Learnt,
   primitive-guards-reads.Asked,
   primitive-guards-reads.Learnt,
 ) (required-guards-at t) required-guards.Post
@@ -369,15 +369,15 @@ required-guards-returns-3 : (t : ℕ) → required-guards-lts.Need-returns-3 (
   note-reads.Learnt,
   intersect-reads.Asked,
   intersect-reads.Learnt,
-  no-guards-reads.Asked,
-  no-guards-reads.Learnt,
+  negated-reads.Asked,
+  negated-reads.Learnt,
   primitive-guards-reads.Asked,
   primitive-guards-reads.Learnt,
 ) (required-guards-at t) required-guards.Post
 unfolding requiredGuards
-required-guards-returns-3 t c = let p = (here-not (c .before .before .before .before .before .before .before .before .before .before .before .before .before .pre .1 .0) (kind-is (c .before .before .before .before .before .before .before .before .before .before .before .before .before .args .tree .now) (c .before .before .before .before .before .before .before .before .before .before .before .before .before .args .i) (c .before .before .before .before .before .before .before .before .before .before .byte-at .ensures) (c .before .before .before .before .before .before .before .before .before .match .keys3))) in
-    let k = c .before .before .before .before .before .before .before .required-guards5 .ensures in
-    required-one k (c .before .before .note3 .ensures .0) (c .before .before .before .before .no-guards .ensures ∙ rw (p .tree)) (k .next ∙ sym (p .end)) (p .end) (c .before .before .note3 .ensures .1) (c .before .before .note3 .ensures .2)
+required-guards-returns-3 t c = let p = (here-not (c .before .before .before .before .before .before .before .before .before .before .before .before .before .before .pre .1 .0) (kind-is (c .before .before .before .before .before .before .before .before .before .before .before .before .before .before .args .tree .now) (c .before .before .before .before .before .before .before .before .before .before .before .before .before .before .args .i) (c .before .before .before .before .before .before .before .before .before .before .before .byte-at .ensures) (c .before .before .before .before .before .before .before .before .before .before .match .keys3))) in
+    let k = c .before .before .before .before .before .before .before .before .required-guards5 .ensures in
+    required-one k (c .before .before .note3 .ensures .0) (c .before .before .before .before .negated .ensures ∙ rw (p .tree)) (k .next ∙ sym (p .end)) (p .end) (c .before .before .note3 .ensures .1) (c .before .before .note3 .ensures .2)
 
 required-guards-returns-4 : (t : ℕ) → required-guards-lts.Need-returns-4 (
   byte-at-reads.Asked,
@@ -390,8 +390,8 @@ required-guards-returns-4 : (t : ℕ) → required-guards-lts.Need-returns-4 (
   note-reads.Learnt,
   intersect-reads.Asked,
   intersect-reads.Learnt,
-  no-guards-reads.Asked,
-  no-guards-reads.Learnt,
+  negated-reads.Asked,
+  negated-reads.Learnt,
   primitive-guards-reads.Asked,
   primitive-guards-reads.Learnt,
 ) (required-guards-at t) required-guards.Post
@@ -411,8 +411,8 @@ pub +required-guards-spec : {M : Type 1} → statement M
   note-reads.Learnt,
   intersect-reads.Asked,
   intersect-reads.Learnt,
-  no-guards-reads.Asked,
-  no-guards-reads.Learnt,
+  negated-reads.Asked,
+  negated-reads.Learnt,
   primitive-guards-reads.Asked,
   primitive-guards-reads.Learnt,
 )
