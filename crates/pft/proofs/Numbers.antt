@@ -12,7 +12,7 @@ use Rattle.bpf.proofs.Programs.{length-insns}
 use Rattle.vm.specs.declared.RunResult.the-variants.{Ran, Refused}
 use Rattle.vm.specs.Machine.{inner, oddProgram, run, stepsOf}
 use Rattle.vm.proofs.Steps.{inner-steps}
-use Rattle.vm.proofs.Entry.{odd-long}
+use Rattle.machine.proofs.Entry.{odd-long}
 
 -- a program of at most 32,768 bytes has at most 4,096 instructions, and a run no more steps
 pub run-steps : (p f : List ℕ) → stepsOf (run p f) ≤ 4096

@@ -173,7 +173,7 @@ pub extern "C" fn pft_direct(tree: &[u8], frame: &[u8]) -> u32
 pub extern "C" fn pft_run(program: &[u8], frame: &[u8]) -> u32
     ensures { λ r. ⌜ r ≡ runNumber (M.run (now (program .entry)) (now (frame .entry))) ⌝ }
 {
-    let result = vm::run(program, frame);
+    let result = machine::run(program, frame);
     match result {
         RunResult::Ran(outcome) => {
             let verdict = outcome.verdict;

@@ -1,11 +1,3 @@
 pub mod Examples
-pub mod Counter
 pub mod Steps
 pub mod Bytes
-pub mod Low
-pub mod Loads
-pub mod Tables
-pub mod Sums
-pub mod Onward
-pub mod Entry
-pub mod Ways

@@ -182,7 +182,7 @@ fn run_case(program: Size, frame: Size) -> Said {
     if !fill(&mut f, frame) {
         return unread();
     }
-    said_of(vm::run(first(&p, program.length), first(&f, frame.length)))
+    said_of(machine::run(first(&p, program.length), first(&f, frame.length)))
 }
 
 // ---- the output
