@@ -1,5 +1,5 @@
 -- A compiled program in the lent buffer, against what the definition leaves there.
-use Prim.Native.Nat.{ℕ, zero, suc, _+_, _-_, _*_, _≤_, _<_}
+use Prim.Native.Nat.{ℕ, zero, suc, _+_, _-_, _*_, _/_, _≤_, _<_}
 use mathlib.Core.Path.{_≡_, refl, sym, ap, _∙_, subst}
 use mathlib.Core.List.{List, [], _∷_, _++_}
 use native.Mathlib.Omega.{arith}
@@ -93,24 +93,24 @@ program-refused s q e = rw e
 
 -- ---- arrays for so many records
 
-pub ready : {s M I Y N : List ℕ} (most : ℕ) → Checked s most → 5 * most ≤ length M → weight (treeOf s 0) + 2 ≤ length I → weight (treeOf s 0) ≤ length Y
-    → weight (treeOf s 0) ≤ length N → length I ≤ 65536 → Ready s M I Y N
-ready most c m i y n cap = record {
-  here = c .here;
-  all = c .all;
-  proper = c .proper;
-  notes = omega (arith, c .few);
-  insns = i;
-  successes = y;
-  failures = n;
-  cap = cap;
-}
+-- the most lines of a tree of n records
+abbrev linesOf : ℕ → ℕ
+linesOf n = 60 * (suc n / 2) + suc n - 25
 
-pub small-weight : {s : List ℕ} → Checked s 16 → weight (treeOf s 0) ≤ 472
-small-weight {s} c = omega (arith, weight-records (treeOf s 0), c .few, c .size)
-
-pub large-weight : {s : List ℕ} → Checked s 128 → weight (treeOf s 0) ≤ 3944
-large-weight {s} c = omega (arith, weight-records (treeOf s 0), c .few, c .size)
+pub ready : {s M I Y N : List ℕ} (most : ℕ) → Checked s most → 5 * most ≤ length M → linesOf most + 2 ≤ length I → linesOf most ≤ length Y → linesOf most ≤ length N
+    → length I ≤ 65536 → Ready s M I Y N
+ready {s} most c m i y n cap =
+    let w : weight (treeOf s 0) ≤ linesOf most = omega (arith, weight-records (treeOf s 0), c .few, c .size) in
+    record {
+      here = c .here;
+      all = c .all;
+      proper = c .proper;
+      notes = omega (arith, c .few);
+      insns = omega arith;
+      successes = omega arith;
+      failures = omega arith;
+      cap = cap;
+    }
 
 pub cleared : {b : List ℕ} (n : ℕ) → b ≡ replicate n 0 → Cleared b
 cleared {b} n e = let l : length b ≡ n = ap length e ∙ rw length-replicate in record { zero = e ∙ ap (λ (k : ℕ). replicate {A = ℕ} k 0) (sym l) }

@@ -109,6 +109,27 @@ fn place_small(tree: &[u8], link: LinkType, program: &mut [u8]) -> BuildResult
     )
 }
 
+// A file of at most 40 records.
+fn place_middle(tree: &[u8], link: LinkType, program: &mut [u8]) -> BuildResult
+    requires { ⌜ P.Checked (now tree) 40 × P.Cleared (now program) ⌝ }
+    ensures { λ r. ⌜ P.Into (C.compile link (treeOf (now (tree .entry)) 0)) (length (now (program .entry))) (now (program .exit)) r ⌝ }
+{
+    let mut notes = [0u64; 200];
+    let mut insns = [0u64; 1218];
+    let mut success = [0u16; 1216];
+    let mut failure = [0u16; 1216];
+    place(
+        tree,
+        link,
+        &mut notes,
+        &mut insns,
+        &mut success,
+        &mut failure,
+        program,
+    )
+}
+
+// Any file.
 fn place_large(tree: &[u8], link: LinkType, program: &mut [u8]) -> BuildResult
     requires { ⌜ P.Checked (now tree) 128 × P.Cleared (now program) ⌝ }
     ensures { λ r. ⌜ P.Into (C.compile link (treeOf (now (tree .entry)) 0)) (length (now (program .entry))) (now (program .exit)) r ⌝ }
@@ -138,6 +159,9 @@ pub fn build(tree: &[u8], program: &mut [u8]) -> BuildResult
         Checked::Link(link) => {
             if tree.len() <= 392 {
                 return place_small(tree, link, program);
+            }
+            if tree.len() <= 968 {
+                return place_middle(tree, link, program);
             }
             place_large(tree, link, program)
         }

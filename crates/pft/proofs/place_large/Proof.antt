@@ -1,12 +1,12 @@
 use borrow.Author.Needs.{needs}
 use native.Mathlib.Omega.{arith}
 use lib.ListN.{length-replicate}
-use Rattle.pft.proofs.Building.{ready, large-weight}
+use Rattle.pft.proofs.Building.{ready}
 use Rattle.pft.proofs.place_large.Statement.{statement}
 use Rattle.pft.proofs.place_large.Tie as tie
 
 place-requires : tie.Need-place-requires
-place-requires c κs = let w = large-weight (c .before .before .before .before .before .before .before .pre .0) in (ready 128 (c .before .before .before .before .before .before .before .pre .0) (simp length-replicate (omega arith)) (simp length-replicate (omega arith)) (simp length-replicate (omega arith)) (simp length-replicate (omega arith)) (simp length-replicate (omega arith)), c .before .before .before .before .before .before .before .pre .1)
+place-requires c κs = (ready 128 (c .before .before .before .before .before .before .before .pre .0) (simp length-replicate (omega arith)) (simp length-replicate (omega arith)) (simp length-replicate (omega arith)) (simp length-replicate (omega arith)) (simp length-replicate (omega arith)), c .before .before .before .before .before .before .before .pre .1)
 
 returns : tie.Need-returns
 returns c = c .before .before .before .before .before .before .place .ensures
