@@ -17,9 +17,10 @@ place-small-requires c κs = let a = c .before .before .before .before .before .
     let k = check-link s (c .before .before .before .link .given .0 .0) (sym (c .before .before .before .before .before .check .ensures) ∙ c .before .before .before .link .given .1) in
     let y = parse-proper s (λ i. omega (arith, c .before .before .before .before .before .before .before .before .before .before .before .shared-slice-known .given i)) (record { link = c .before .before .before .link .given .0 .0; tree = treeOf s 0 }) (k .2) in
     let n = parse-records s (record { link = c .before .before .before .link .given .0 .0; tree = treeOf s 0 }) (k .2) in
-    let h = k .0 in
-    (record { here = k .0; all = k .1; proper = y .0; few = omega (arith, h .whole, c .before .if1 .taken); size = n },
-    cleared (length (a .program .now)) (c .before .before .before .before .before .before .before .before .clear .ensures))
+    let h = k .0 in (
+      record { here = k .0; all = k .1; proper = y .0; few = omega (arith, h .whole, c .before .if1 .taken); size = n },
+      cleared (length (a .program .now)) (c .before .before .before .before .before .before .before .before .clear .ensures),
+    )
 
 returns : tie.Need-returns
 returns c = let a = c .before .before .before .before .before .before .before .before .before .before .before .before .before .before .before .args in
@@ -34,9 +35,10 @@ place-middle-requires c κs = let a = c .before .before .before .before .before 
     let k = check-link s (c .before .before .before .before .link .given .0 .0) (sym (c .before .before .before .before .before .before .check .ensures) ∙ c .before .before .before .before .link .given .1) in
     let y = parse-proper s (λ i. omega (arith, c .before .before .before .before .before .before .before .before .before .before .before .before .shared-slice-known .given i)) (record { link = c .before .before .before .before .link .given .0 .0; tree = treeOf s 0 }) (k .2) in
     let n = parse-records s (record { link = c .before .before .before .before .link .given .0 .0; tree = treeOf s 0 }) (k .2) in
-    let h = k .0 in
-    (record { here = k .0; all = k .1; proper = y .0; few = omega (arith, h .whole, c .before .if2 .taken); size = n },
-    cleared (length (a .program .now)) (c .before .before .before .before .before .before .before .before .before .clear .ensures))
+    let h = k .0 in (
+      record { here = k .0; all = k .1; proper = y .0; few = omega (arith, h .whole, c .before .if2 .taken); size = n },
+      cleared (length (a .program .now)) (c .before .before .before .before .before .before .before .before .before .clear .ensures),
+    )
 
 returns-2 : tie.Need-returns-2
 returns-2 c = let a = c .before .before .before .before .before .before .before .before .before .before .before .before .before .before .before .before .args in
@@ -51,9 +53,10 @@ place-large-requires c κs = let a = c .before .before .before .before .before .
     let k = check-link s (c .before .before .before .before .link .given .0 .0) (sym (c .before .before .before .before .before .before .check .ensures) ∙ c .before .before .before .before .link .given .1) in
     let y = parse-proper s (λ i. omega (arith, c .before .before .before .before .before .before .before .before .before .before .before .before .shared-slice-known .given i)) (record { link = c .before .before .before .before .link .given .0 .0; tree = treeOf s 0 }) (k .2) in
     let n = parse-records s (record { link = c .before .before .before .before .link .given .0 .0; tree = treeOf s 0 }) (k .2) in
-    let h = k .0 in
-    (record { here = k .0; all = k .1; proper = y .0; few = omega (arith, h .whole, h .most); size = n },
-    cleared (length (a .program .now)) (c .before .before .before .before .before .before .before .before .before .clear .ensures))
+    let h = k .0 in (
+      record { here = k .0; all = k .1; proper = y .0; few = omega (arith, h .whole, h .most); size = n },
+      cleared (length (a .program .now)) (c .before .before .before .before .before .before .before .before .before .clear .ensures),
+    )
 
 returns-3 : tie.Need-returns-3
 returns-3 c = let a = c .before .before .before .before .before .before .before .before .before .before .args in
