@@ -89,15 +89,15 @@ def listed_crates():
     return crates
 
 
-def reached_crates():
-    """The crates that rows are about, and all that these stand on."""
-    listed, reached, todo = listed_crates(), {}, ["pft", "vm", "direct"]
-    while todo:
-        name = todo.pop()
-        if name in listed and name not in reached:
-            reached[name] = listed[name]
-            todo += listed[name]
-    return reached
+# The crates of definitions, and in them what functions promise one another, which stands on the code's crates.
+DEFINITIONS = ["error", "bpf", "vm", "ast", "direct", "codegen", "pft"]
+PROMISES = {"pft": ["Promises"]}
+
+
+def definition_crates():
+    """The crates that rows are about, each with those that it stands on."""
+    listed = listed_crates()
+    return {name: [d for d in listed[name] if d in DEFINITIONS] for name in DEFINITIONS}
 
 
 # ── The repository ───────────────────────────────────────────────────────────
@@ -106,10 +106,14 @@ def reached_crates():
 class Repository:
     def __init__(self, folder, breaks):
         self.folder = folder
-        self.crates = reached_crates()
+        self.crates = definition_crates()
         for crate in self.crates:
             source, copy = ROOT / "crates" / crate, folder / "crates" / crate
             shutil.copytree(source / "specs", copy / "specs")
+            for module in PROMISES.get(crate, []):
+                (copy / "specs" / f"{module}.antt").unlink()
+                root = copy / "specs" / "Lib.antt"
+                root.write_text(root.read_text().replace(f"pub mod {module}\n", ""))
             for path in (source / "src").rglob("*.rt"):
                 to = copy / path.relative_to(source)
                 to.parent.mkdir(parents=True, exist_ok=True)
