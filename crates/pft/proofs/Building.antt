@@ -25,7 +25,7 @@ use Rattle.compile.specs.Walks.{Programs, Compiles, Ready}
 use Rattle.pft.specs.declared.BuildResult.{BuildResult}
 use Rattle.pft.specs.declared.BuildResult.the-variants.{Count, Refused}
 use Rattle.pft.specs.Build.{into, program, build}
-use Rattle.pft.specs.Promises.{Cleared, Checked, Into, Builds}
+use Rattle.pft.specs.Promises.{Cleared, Checked, Into}
 
 -- ---- what was compiled
 
@@ -79,9 +79,10 @@ module _ {o : Out (List Insn)} {I b : List ℕ} {n : ℕ} (lent : ℕ) (h : Held
 
 -- ---- the file
 
-pub builds : (s : List ℕ) (lent : ℕ) {o : Out (List Insn)} {b : List ℕ} {r : BuildResult} → program s ≡ o → Into o lent b r → Builds s lent b r
+pub builds : (s : List ℕ) (lent : ℕ) {o : Out (List Insn)} {b : List ℕ} {r : BuildResult} → program s ≡ o → Into o lent b r
+    → (r ≡ build s lent .answer) × (b ≡ build s lent .buffer)
 unfolding build
-builds s lent e h = record { answer = rw e (h .answer); buffer = rw e (h .buffer) }
+builds s lent e h = (rw e (h .answer), rw e (h .buffer))
 
 pub program-of : (s : List ℕ) (L : LinkType) → parse s ≡ done (record { link = L; tree = treeOf s 0 }) → program s ≡ compile L (treeOf s 0)
 unfolding program

@@ -10,7 +10,7 @@ use Rattle.ast.specs.File.{countOf}
 use Rattle.ast.proofs.Proper.{Proper}
 use Rattle.reader.specs.Reader.{Here, treeOf, endOf}
 use Rattle.pft.specs.declared.BuildResult.{BuildResult}
-use Rattle.pft.specs.Build.{into, build}
+use Rattle.pft.specs.Build.{into}
 
 -- a buffer of zeros
 pub record Cleared (b : List ℕ) : Type 0 where
@@ -28,8 +28,3 @@ pub record Checked (s : List ℕ) (most : ℕ) : Type 0 where
 pub record Into (o : Out (List Insn)) (lent : ℕ) (b : List ℕ) (r : BuildResult) : Type 0 where
   pub answer : r ≡ into lent o .answer
   pub buffer : b ≡ into lent o .buffer
-
--- and those of `build`
-pub record Builds (tree : List ℕ) (lent : ℕ) (b : List ℕ) (r : BuildResult) : Type 0 where
-  pub answer : r ≡ build tree lent .answer
-  pub buffer : b ≡ build tree lent .buffer

@@ -151,7 +151,7 @@ fn place_large(tree: &[u8], link: LinkType, program: &mut [u8]) -> BuildResult
 
 // A tree file's program in the lent buffer, and zeros after it; or a refusal and zeros.
 pub fn build(tree: &[u8], program: &mut [u8]) -> BuildResult
-    ensures { λ r. ⌜ P.Builds (now (tree .entry)) (length (now (program .entry))) (now (program .exit)) r ⌝ }
+    ensures { λ r. ⌜ (r ≡ build (now (tree .entry)) (length (now (program .entry))) .answer) × (now (program .exit) ≡ build (now (tree .entry)) (length (now (program .entry))) .buffer) ⌝ }
 {
     output::clear(program);
     match reader::check(tree) {

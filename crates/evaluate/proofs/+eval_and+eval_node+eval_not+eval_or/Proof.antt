@@ -3,7 +3,7 @@ use Prim.Native.Nat.{ℕ, _+_, _*_, _-_, _<_}
 use native.Mathlib.Omega.{arith}
 use Rattle.ast.specs.File.{countOf}
 use Rattle.reader.proofs.Here.{here-and, here-or, here-not, here-leaf}
-use Rattle.evaluate.proofs.Places.{kind-of, kind-not}
+use Rattle.reader.proofs.Firsts.{kind-is, kind-not}
 use Rattle.evaluate.proofs.Turns.{and-held, and-failed, or-held, or-failed, not-says, leaf-says}
 use borrow.Fn.Kinds.{In}
 use borrow.Fn.PlainCycle.{Measures, is, falls, and}
@@ -107,7 +107,7 @@ eval-node-eval-and-requires : (t : ℕ) → eval-node-lts.Need-eval-and-requires
   eval-primitive-reads.Asked,
   eval-primitive-reads.Learnt,
 ) (eval-node-at t) eval-node.Post
-eval-node-eval-and-requires t c κs = (omega arith, (c .before .before .before .before .pre .1, kind-of (c .before .before .before .before .args .tree .now) (c .before .before .before .before .args .i) (c .before .byte-at .ensures) (c .match .keys1)))
+eval-node-eval-and-requires t c κs = (omega arith, (c .before .before .before .before .pre .1, kind-is (c .before .before .before .before .args .tree .now) (c .before .before .before .before .args .i) (c .before .byte-at .ensures) (c .match .keys1)))
 
 eval-node-eval-or-requires : (t : ℕ) → eval-node-lts.Need-eval-or-requires (
   byte-at-reads.Asked,
@@ -121,7 +121,7 @@ eval-node-eval-or-requires : (t : ℕ) → eval-node-lts.Need-eval-or-requires (
   eval-primitive-reads.Asked,
   eval-primitive-reads.Learnt,
 ) (eval-node-at t) eval-node.Post
-eval-node-eval-or-requires t c κs = (omega arith, (c .before .before .before .before .pre .1, kind-of (c .before .before .before .before .args .tree .now) (c .before .before .before .before .args .i) (c .before .byte-at .ensures) (c .match .keys2)))
+eval-node-eval-or-requires t c κs = (omega arith, (c .before .before .before .before .pre .1, kind-is (c .before .before .before .before .args .tree .now) (c .before .before .before .before .args .i) (c .before .byte-at .ensures) (c .match .keys2)))
 
 eval-node-eval-not-requires : (t : ℕ) → eval-node-lts.Need-eval-not-requires (
   byte-at-reads.Asked,
@@ -135,7 +135,7 @@ eval-node-eval-not-requires : (t : ℕ) → eval-node-lts.Need-eval-not-requires
   eval-primitive-reads.Asked,
   eval-primitive-reads.Learnt,
 ) (eval-node-at t) eval-node.Post
-eval-node-eval-not-requires t c κs = (omega arith, (c .before .before .before .before .pre .1, kind-of (c .before .before .before .before .args .tree .now) (c .before .before .before .before .args .i) (c .before .byte-at .ensures) (c .match .keys3)))
+eval-node-eval-not-requires t c κs = (omega arith, (c .before .before .before .before .pre .1, kind-is (c .before .before .before .before .args .tree .now) (c .before .before .before .before .args .i) (c .before .byte-at .ensures) (c .match .keys3)))
 
 eval-node-eval-primitive-requires : (t : ℕ) → eval-node-lts.Need-eval-primitive-requires (
   byte-at-reads.Asked,

@@ -5,10 +5,10 @@ use Rattle.pft.proofs.pft_build.Statement.{statement}
 use Rattle.pft.proofs.pft_build.Tie as tie
 
 returns : tie.Need-returns
-returns c = (ap buildNumber (sym (c .before .n .given .1) ∙ c .before .before .before .before .before .build .ensures .answer), c .before .before .before .before .before .build .ensures .buffer)
+returns c = (ap buildNumber (sym (c .before .n .given .1) ∙ c .before .before .before .before .before .build .ensures .0), c .before .before .before .before .before .build .ensures .1)
 
 returns-2 : tie.Need-returns-2
-returns-2 c = (rw (c .refusal-number .ensures .0) (ap buildNumber (sym (c .before .before .r .given .1) ∙ c .before .before .before .before .before .before .build .ensures .answer)), c .before .before .before .before .before .before .build .ensures .buffer)
+returns-2 c = (rw (c .refusal-number .ensures .0) (ap buildNumber (sym (c .before .before .r .given .1) ∙ c .before .before .before .before .before .before .build .ensures .0)), c .before .before .before .before .before .before .build .ensures .1)
 
 pub pft-build-spec : {M : Type 1} → statement M
 pft-build-spec =
