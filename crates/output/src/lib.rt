@@ -1,10 +1,27 @@
-// A program's lines as bytes in a lent buffer.
+// A program's lines as a row of instructions, and the row as bytes in a lent buffer.
+use bpf::Insn;
 ghost use mathlib.Core.Path.{_≡_};
 ghost use mathlib.Core.List.{_++_};
-ghost use Prim.Native.Nat.{_+_, _*_, _≤_};
-ghost use lib.ListN.{length, take, drop, replicate};
-ghost use Rattle.bpf.specs.Program.{insn, insnBytes};
+ghost use Prim.Native.Nat.{_+_, _*_, _≤_, _<_};
+ghost use lib.ListN.{length, take, drop, getD, replicate};
+ghost use Rattle.bpf.specs.Program.{insn, insnBytes, programBytes};
 ghost use Rattle.output.specs.Words as W;
+ghost use Rattle.output.specs.Rows.{Lands, resolved, pendingOf, linkedTo, bare, bareRow, row};
+
+// The field of an instruction that waits for a distance, by the instruction's place in a row: codegen.rs `Patch`. A line that does not
+// jump has nothing to wait for.
+pub enum Patch {
+    Jt(usize),
+    Jf(usize),
+    Ja(usize),
+    Nothing,
+}
+
+// A pending jump whose distance is known.
+pub struct Pending {
+    pub patch: Patch,
+    pub distance: u32,
+}
 
 pub fn clear(program: &mut [u8])
     ensures { λ _. ⌜ now (program .exit) ≡ replicate (length (now (program .entry))) 0 ⌝ }
@@ -15,6 +32,104 @@ pub fn clear(program: &mut [u8])
         i += 1;
     }
 }
+
+// ---- the row
+
+// Writes the field that a patch names: jt, jf or k of one instruction. All others stay.
+fn resolve(insns: &mut [Insn], patch: Patch, distance: u32)
+    requires { ⌜ Lands patch distance (length (now insns)) ⌝ }
+    ensures { λ _. ⌜ now (insns .exit) ≡ resolved patch distance (now (insns .entry)) ⌝ }
+{
+    match patch {
+        Patch::Jt(i) => insns[i].jt = distance as u8,
+        Patch::Jf(i) => insns[i].jf = distance as u8,
+        Patch::Ja(i) => insns[i].k = distance,
+        Patch::Nothing => {}
+    }
+}
+
+// The pending jump of line i, which is instruction i of the row.
+fn pending_at(lines: &[u64], i: usize) -> Pending
+    requires { ⌜ i < length (now lines) ⌝ }
+    ensures { λ r. ⌜ r ≡ pendingOf (getD (now (lines .entry)) i 0) i ⌝ }
+{
+    let w = lines[i];
+    let distance = (w / 65536 % 256) as u32;
+    match w / 16777216 % 4 {
+        1 => Pending {
+            patch: Patch::Jt(i),
+            distance,
+        },
+        2 => Pending {
+            patch: Patch::Jf(i),
+            distance,
+        },
+        3 => Pending {
+            patch: Patch::Ja(i),
+            distance,
+        },
+        _ => Pending {
+            patch: Patch::Nothing,
+            distance,
+        },
+    }
+}
+
+// Resolves the jump of each line.
+fn link(insns: &mut [Insn], lines: &[u64])
+    requires { ⌜ length (now lines) ≤ length (now insns) ⌝ }
+    ensures { λ _. ⌜ now (insns .exit) ≡ linkedTo (length (now (lines .entry))) (now (lines .entry)) (now (insns .entry)) ⌝ }
+{
+    let mut i: usize = 0;
+    while i < lines.len() {
+        let p = pending_at(lines, i);
+        resolve(insns, p.patch, p.distance);
+        i += 1;
+    }
+}
+
+// The instruction of a line, its jump not yet resolved.
+fn bare_insn(w: u64) -> Insn
+    ensures { λ r. ⌜ r ≡ bare w ⌝ }
+{
+    Insn {
+        code: (w % 65536) as u16,
+        jt: 0,
+        jf: 0,
+        k: (w / 4294967296) as u32,
+    }
+}
+
+fn bare_row(lines: &[u64]) -> [Insn; 64]
+    requires { ⌜ length (now lines) ≤ 64 ⌝ }
+    ensures { λ r. ⌜ r ≡ bareRow (now (lines .entry)) ⌝ }
+{
+    let zero = Insn {
+        code: 0,
+        jt: 0,
+        jf: 0,
+        k: 0,
+    };
+    let mut insns = [zero; 64];
+    let mut i: usize = 0;
+    while i < lines.len() {
+        insns[i] = bare_insn(lines[i]);
+        i += 1;
+    }
+    insns
+}
+
+// The instructions of up to 64 lines.
+fn linked(lines: &[u64]) -> [Insn; 64]
+    requires { ⌜ length (now lines) ≤ 64 ⌝ }
+    ensures { λ r. ⌜ r ≡ row (now (lines .entry)) ⌝ }
+{
+    let mut insns = bare_row(lines);
+    link(&mut insns, lines);
+    insns
+}
+
+// ---- the bytes
 
 // The eight bytes of an instruction.
 fn store(program: &mut [u8], at: usize, code: u16, jt: u8, jf: u8, k: u32)
@@ -31,45 +146,38 @@ fn store(program: &mut [u8], at: usize, code: u16, jt: u8, jf: u8, k: u32)
     program[at + 7] = (k / 256 / 256 / 256 % 256) as u8;
 }
 
-// The distance of a line where it goes to the field, else 0.
-fn jump(w: u64, field: u64) -> u8
-    ensures { λ r. ⌜ r ≡ W.jump w field ⌝ }
+// The first n instructions of a row, from a place on.
+fn write_row(program: &mut [u8], at: usize, insns: [Insn; 64], n: usize)
+    requires { ⌜ (n ≤ 64) × (at + 8 * n ≤ length (now program)) ⌝ }
+    ensures { λ _. ⌜ now (program .exit) ≡ take at (now (program .entry)) ++ programBytes (take n insns) ++ drop (at + 8 * n) (now (program .entry)) ⌝ }
 {
-    if w / 16777216 % 4 == field {
-        (w / 65536 % 256) as u8
-    } else {
-        0
-    }
-}
-
-fn k_of(w: u64) -> u32
-    ensures { λ r. ⌜ r ≡ W.insnOf w .k ⌝ }
-{
-    if w / 16777216 % 4 == 3 {
-        (w / 65536 % 256) as u32
-    } else {
-        (w / 4294967296) as u32
-    }
-}
-
-fn write_insn(program: &mut [u8], at: usize, w: u64)
-    requires { ⌜ at + 8 ≤ length (now program) ⌝ }
-    ensures { λ _. ⌜ now (program .exit) ≡ take at (now (program .entry)) ++ insnBytes (W.insnOf w) ++ drop (at + 8) (now (program .entry)) ⌝ }
-{
-    let jt = jump(w, 1);
-    let jf = jump(w, 2);
-    let k = k_of(w);
-    store(program, at, (w % 65536) as u16, jt, jf, k)
-}
-
-// The first n lines, from the buffer's start.
-pub fn write_program(program: &mut [u8], insns: &[u64], n: usize)
-    requires { ⌜ (8 * n ≤ length (now program)) × (n ≤ length (now insns)) ⌝ }
-    ensures { λ _. ⌜ now (program .exit) ≡ W.bytesOf (take n (now (insns .entry))) ++ drop (8 * n) (now (program .entry)) ⌝ }
-{
-    let mut i = 0;
+    let mut i: usize = 0;
     while i < n {
-        write_insn(program, 8 * i, insns[i]);
+        let x = insns[i];
+        store(program, at + 8 * i, x.code, x.jt, x.jf, x.k);
         i += 1;
+    }
+}
+
+// How many of n lines go into the next row.
+fn next(n: usize) -> usize
+    requires { ⌜ 0 < n ⌝ }
+    ensures { λ r. ⌜ (0 < r) × (r ≤ 64) × (r ≤ n) ⌝ }
+{
+    if n < 64 { n } else { 64 }
+}
+
+// The first n lines, from the buffer's start, row by row.
+pub fn write_program(program: &mut [u8], lines: &[u64], n: usize)
+    requires { ⌜ (8 * n ≤ length (now program)) × (n ≤ length (now lines)) ⌝ }
+    ensures { λ _. ⌜ now (program .exit) ≡ W.bytesOf (take n (now (lines .entry))) ++ drop (8 * n) (now (program .entry)) ⌝ }
+{
+    let mut i: usize = 0;
+    while i < n {
+        let m = next(n - i);
+        let to = i + m;
+        let insns = linked(&lines[i..to]);
+        write_row(program, 8 * i, insns, m);
+        i = to;
     }
 }
