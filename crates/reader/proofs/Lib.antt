@@ -9,3 +9,4 @@ pub mod Forests
 pub mod Bodies
 pub mod Checks
 pub mod Firsts
+pub mod Held
