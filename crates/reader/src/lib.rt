@@ -100,11 +100,10 @@ pub fn half_at(tree: &[u8], i: usize, o: usize) -> u16
 }
 
 pub fn word_at(tree: &[u8], i: usize, o: usize) -> u32
-    requires { ⌜ (i < 128) × (o < 24) × (place i + o + 3 < length (now tree)) ⌝ }
+    requires { ⌜ (i < 128) × (o < 22) × (place i + o + 3 < length (now tree)) ⌝ }
     ensures { λ r. ⌜ r ≡ be 4 (place i + o) (now (tree .entry)) ⌝ }
 {
-    let at = 8 + 24 * i + o;
-    half(tree, at) as u32 * 65536 + half(tree, at + 2) as u32
+    half_at(tree, i, o) as u32 * 65536 + half_at(tree, i, o + 2) as u32
 }
 
 // The eight segments of record i's address.
