@@ -10,3 +10,6 @@ pub mod Bodies
 pub mod Checks
 pub mod Firsts
 pub mod Held
+pub mod Numbers
+pub mod Methods
+pub mod Above

@@ -46,7 +46,7 @@ fn half(tree: &[u8], at: usize) -> u16
     pair(tree[at], tree[at + 1])
 }
 
-// The numbers of record i that start at its byte o.
+// The numbers that start at byte o of record i.
 fn byte_in(tree: &[u8], i: usize, o: usize) -> u8
     requires { ⌜ (i < 128) × (o < 24) × (place i + o < length (now tree)) ⌝ }
     ensures { λ r. ⌜ r ≡ be 1 (place i + o) (now (tree .entry)) ⌝ }
@@ -61,28 +61,24 @@ fn half_in(tree: &[u8], i: usize, o: usize) -> u16
     half(tree, 8 + 24 * i + o)
 }
 
-// The same, of a reader's record.
+// The numbers that start at byte o of the reader's record.
 impl<'a> RecordReader<'a> {
     pub fn byte(self, o: usize) -> u8
-        requires {
-            ⌜ (self .index < 128) × (o < 24) × (place (self .index) + o < length (now (self .tree))) ⌝
-        }
+        requires { ⌜ (self .index < 128) × (o < 24) × (place (self .index) + o < length (now (self .tree))) ⌝ }
         ensures { λ r. ⌜ r ≡ be 1 (place (self .entry .index) + o) (now (self .entry .tree)) ⌝ }
     {
         byte_in(self.tree, self.index, o)
     }
 
     pub fn half(self, o: usize) -> u16
-        requires {
-            ⌜ (self .index < 128) × (o < 24) × (place (self .index) + o + 1 < length (now (self .tree))) ⌝
-        }
+        requires { ⌜ (self .index < 128) × (o < 24) × (place (self .index) + o + 1 < length (now (self .tree))) ⌝ }
         ensures { λ r. ⌜ r ≡ be 2 (place (self .entry .index) + o) (now (self .entry .tree)) ⌝ }
     {
         half_in(self.tree, self.index, o)
     }
 }
 
-// By a reader that is made for it.
+// The same with plain parameters: a reader is made for each number. Whatever is read of a record is read by these two.
 pub fn byte_at(tree: &[u8], i: usize, o: usize) -> u8
     requires { ⌜ (i < 128) × (o < 24) × (place i + o < length (now tree)) ⌝ }
     ensures { λ r. ⌜ r ≡ be 1 (place i + o) (now (tree .entry)) ⌝ }
