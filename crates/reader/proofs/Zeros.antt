@@ -19,8 +19,9 @@ be-join m (suc n) at s =
     place : getD s (at + (m + n)) 0 ≡ getD s (at + m + n) 0
     place = ap (λ k. getD s k 0) (omega arith)
 
-pub be-halves : (at : ℕ) (s : List ℕ) → be 4 at s ≡ be 2 at s * 65536 + be 2 (at + 2) s
-be-halves at s = be-join 2 2 at s
+-- of four bytes at byte o of a record
+pub be-halves : (at o : ℕ) (s : List ℕ) → be 4 (at + o) s ≡ be 2 (at + o) s * 65536 + be 2 (at + (o + 2)) s
+be-halves at o s = be-join 2 2 (at + o) s ∙ ap (λ p. be 2 (at + o) s * 65536 + be 2 p s) (omega arith)
 
 at-place : (n : ℕ) {a b : ℕ} (s : List ℕ) → a ≡ b → be n a s ≡ be n b s
 at-place n s e = ap (λ a. be n a s) e

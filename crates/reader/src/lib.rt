@@ -23,6 +23,12 @@ pub enum Checked {
 // and how many bytes of the address it uses.
 pub struct Most(pub u8, pub u8, pub u8, pub u16, pub u16, pub u8);
 
+// A tree file's bytes, lent, and the index of a record.
+pub struct RecordReader<'a> {
+    pub tree: &'a [u8],
+    pub index: usize,
+}
+
 // ---- numbers
 
 // The number of two bytes, the high one first.
@@ -40,27 +46,60 @@ fn half(tree: &[u8], at: usize) -> u16
     pair(tree[at], tree[at + 1])
 }
 
-// The numbers of record i that start at its byte o.
-pub fn byte_at(tree: &[u8], i: usize, o: usize) -> u8
+// The numbers that start at byte o of record i.
+fn byte_in(tree: &[u8], i: usize, o: usize) -> u8
     requires { ⌜ (i < 128) × (o < 24) × (place i + o < length (now tree)) ⌝ }
     ensures { λ r. ⌜ r ≡ be 1 (place i + o) (now (tree .entry)) ⌝ }
 {
     tree[8 + 24 * i + o]
 }
 
-pub fn half_at(tree: &[u8], i: usize, o: usize) -> u16
+fn half_in(tree: &[u8], i: usize, o: usize) -> u16
     requires { ⌜ (i < 128) × (o < 24) × (place i + o + 1 < length (now tree)) ⌝ }
     ensures { λ r. ⌜ r ≡ be 2 (place i + o) (now (tree .entry)) ⌝ }
 {
     half(tree, 8 + 24 * i + o)
 }
 
+// The numbers that start at byte o of the reader's record.
+impl<'a> RecordReader<'a> {
+    pub fn byte(self, o: usize) -> u8
+        requires { ⌜ (self .index < 128) × (o < 24) × (place (self .index) + o < length (now (self .tree))) ⌝ }
+        ensures { λ r. ⌜ r ≡ be 1 (place (self .entry .index) + o) (now (self .entry .tree)) ⌝ }
+    {
+        byte_in(self.tree, self.index, o)
+    }
+
+    pub fn half(self, o: usize) -> u16
+        requires { ⌜ (self .index < 128) × (o < 24) × (place (self .index) + o + 1 < length (now (self .tree))) ⌝ }
+        ensures { λ r. ⌜ r ≡ be 2 (place (self .entry .index) + o) (now (self .entry .tree)) ⌝ }
+    {
+        half_in(self.tree, self.index, o)
+    }
+}
+
+// The same with plain parameters: a reader is made for each number. Whatever is read of a record is read by these two.
+pub fn byte_at(tree: &[u8], i: usize, o: usize) -> u8
+    requires { ⌜ (i < 128) × (o < 24) × (place i + o < length (now tree)) ⌝ }
+    ensures { λ r. ⌜ r ≡ be 1 (place i + o) (now (tree .entry)) ⌝ }
+{
+    let r = RecordReader { tree, index: i };
+    r.byte(o)
+}
+
+pub fn half_at(tree: &[u8], i: usize, o: usize) -> u16
+    requires { ⌜ (i < 128) × (o < 24) × (place i + o + 1 < length (now tree)) ⌝ }
+    ensures { λ r. ⌜ r ≡ be 2 (place i + o) (now (tree .entry)) ⌝ }
+{
+    let r = RecordReader { tree, index: i };
+    r.half(o)
+}
+
 pub fn word_at(tree: &[u8], i: usize, o: usize) -> u32
-    requires { ⌜ (i < 128) × (o < 24) × (place i + o + 3 < length (now tree)) ⌝ }
+    requires { ⌜ (i < 128) × (o < 22) × (place i + o + 3 < length (now tree)) ⌝ }
     ensures { λ r. ⌜ r ≡ be 4 (place i + o) (now (tree .entry)) ⌝ }
 {
-    let at = 8 + 24 * i + o;
-    half(tree, at) as u32 * 65536 + half(tree, at + 2) as u32
+    half_at(tree, i, o) as u32 * 65536 + half_at(tree, i, o + 2) as u32
 }
 
 // The eight segments of record i's address.
