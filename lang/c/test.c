@@ -223,7 +223,8 @@ static void builds(void)
     TEST(build(&f, ROOM, buffer) == 4);
     TEST(memcmp(buffer, ip, 32) == 0 && all_are(buffer + 32, ROOM - 32, 0));
     f = far_file(3);
-    TEST(build(&f, PFT_PROGRAM_MAX, buffer) == 258 && buffer[8 + 3] == 255);
+    answer = build(&f, PFT_PROGRAM_MAX, buffer);
+    TEST(answer == 258 && pft_build_count(answer) == 258 && buffer[8 + 3] == 255);
 }
 
 static void runs(void)
@@ -248,6 +249,10 @@ static void runs(void)
     TEST(pft_run_verdict(answer) == 0 && pft_run_steps(answer) == 0);
     TEST(pft_run_refusal(run(buffer, 31, frame, 14)) == PFT_ODD_PROGRAM);
     TEST(pft_run_refusal(run(buffer, PFT_RUN_MAX + 8, frame, PFT_FRAME_MAX + 1)) == PFT_ODD_PROGRAM);
+    memset(buffer, 0, PFT_RUN_MAX); /* load the number 0, 4,095 times, and return it */
+    buffer[PFT_RUN_MAX - 8] = 0x16;
+    answer = run(buffer, PFT_RUN_MAX, frame, PFT_FRAME_MAX);
+    TEST(answer == 2 * 65536 + 4096 && pft_run_verdict(answer) == PFT_DROPPED && pft_run_steps(answer) == 4096);
     TEST(strcmp(pft_refusal_word(PFT_LONG_FRAME), "long frame") == 0);
     TEST(strcmp(pft_refusal_word(PFT_ODD_PROGRAM), "odd program") == 0);
 }
