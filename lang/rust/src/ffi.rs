@@ -1,0 +1,50 @@
+//! The three functions of libpft.a. A slice is passed as pointer and length.
+
+mod c {
+    #[link(name = "pft", kind = "static")]
+    extern "C" {
+        pub fn pft_build(
+            tree: *const u8,
+            tree_length: usize,
+            program: *mut u8,
+            program_length: usize,
+        ) -> u32;
+        pub fn pft_run(
+            program: *const u8,
+            program_length: usize,
+            frame: *const u8,
+            frame_length: usize,
+        ) -> u32;
+        pub fn pft_direct(
+            tree: *const u8,
+            tree_length: usize,
+            frame: *const u8,
+            frame_length: usize,
+        ) -> u32;
+    }
+}
+
+pub fn build(tree: &[u8], program: &mut [u8]) -> u32 {
+    // SAFETY: each pointer and length is that of a slice which lives through the call, `program`
+    // is lent mutably and so overlaps nothing, and the function keeps neither.
+    unsafe {
+        c::pft_build(
+            tree.as_ptr(),
+            tree.len(),
+            program.as_mut_ptr(),
+            program.len(),
+        )
+    }
+}
+
+pub fn run(program: &[u8], frame: &[u8]) -> u32 {
+    // SAFETY: each pointer and length is that of a slice which lives through the call; the
+    // function writes neither and keeps neither.
+    unsafe { c::pft_run(program.as_ptr(), program.len(), frame.as_ptr(), frame.len()) }
+}
+
+pub fn direct(tree: &[u8], frame: &[u8]) -> u32 {
+    // SAFETY: each pointer and length is that of a slice which lives through the call; the
+    // function writes neither and keeps neither.
+    unsafe { c::pft_direct(tree.as_ptr(), tree.len(), frame.as_ptr(), frame.len()) }
+}

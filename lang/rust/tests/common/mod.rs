@@ -1,0 +1,103 @@
+//! Tree files for the tests, as document 01 lays them out.
+#![allow(dead_code)] // each test takes what it needs
+
+pub const ETHERNET: u8 = 1;
+pub const RAW_IP: u8 = 2;
+pub const LINUX_SLL: u8 = 3;
+
+pub const EITHER: u8 = 0;
+pub const SOURCE: u8 = 1;
+pub const DESTINATION: u8 = 2;
+pub const BOTH: u8 = 3;
+
+pub const NONE: u8 = 0;
+pub const IP: u8 = 1;
+pub const IP6: u8 = 2;
+pub const TCP: u8 = 5;
+pub const UDP: u8 = 6;
+pub const ICMP: u8 = 7;
+pub const ICMP6: u8 = 8;
+
+pub type Record = [u8; 24];
+
+pub fn record(kind: u8) -> Record {
+    let mut r = [0; 24];
+    r[0] = kind;
+    r
+}
+
+pub fn protocol(p: u8) -> Vec<Record> {
+    let mut r = record(10);
+    r[2] = p;
+    vec![r]
+}
+
+pub fn port(direction: u8, p: u8, number: u16) -> Vec<Record> {
+    let mut r = record(15);
+    (r[1], r[2]) = (direction, p);
+    r[4..6].copy_from_slice(&number.to_be_bytes());
+    vec![r]
+}
+
+pub fn host6(direction: u8) -> Vec<Record> {
+    let mut r = record(12);
+    r[1] = direction;
+    r[8..].copy_from_slice(&[0x20, 1, 0xd, 0xb8, 0, 0, 0, 0, 0, 0, 0, 0, 0, 0, 0, 1]);
+    vec![r]
+}
+
+pub fn net6(prefix: u8) -> Vec<Record> {
+    let mut r = record(14);
+    r[3] = prefix;
+    vec![r]
+}
+
+pub fn ether_multicast() -> Vec<Record> {
+    vec![record(19)]
+}
+
+pub fn and(left: Vec<Record>, right: Vec<Record>) -> Vec<Record> {
+    [vec![record(1)], left, right].concat()
+}
+
+pub fn or(left: Vec<Record>, right: Vec<Record>) -> Vec<Record> {
+    [vec![record(2)], left, right].concat()
+}
+
+pub fn not(part: Vec<Record>) -> Vec<Record> {
+    [vec![record(3)], part].concat()
+}
+
+pub fn file(link: u8, records: Vec<Record>) -> Vec<u8> {
+    let [high, low] = (records.len() as u16).to_be_bytes();
+    let mut bytes = vec![b'P', b'F', b'T', 0, 1, link, high, low];
+    bytes.extend(records.concat());
+    bytes
+}
+
+/// Seven ether multicasts, an IPv6 source host, seven IPv6 hosts, the last with a direction of
+/// its own, joined by and from the left.
+pub fn far(last: u8) -> Vec<u8> {
+    let mut tree = ether_multicast();
+    for _ in 0..6 {
+        tree = and(tree, ether_multicast());
+    }
+    tree = and(tree, host6(SOURCE));
+    for _ in 0..6 {
+        tree = and(tree, host6(BOTH));
+    }
+    file(ETHERNET, and(tree, host6(last)))
+}
+
+/// splitmix64: the same draws on every machine.
+pub struct Rng(pub u64);
+
+impl Rng {
+    pub fn below(&mut self, n: u64) -> usize {
+        self.0 = self.0.wrapping_add(0x9E37_79B9_7F4A_7C15);
+        let mut z = self.0;
+        z = (z ^ z >> 30).wrapping_mul(0xBF58_476D_1CE4_E5B9);
+        z = (z ^ z >> 27).wrapping_mul(0x94D0_49BB_1331_11EB);
+        ((z ^ z >> 31) % n) as usize
+    }
+}
