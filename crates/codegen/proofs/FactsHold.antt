@@ -1,5 +1,6 @@
 -- What the generator's facts say of a frame and of X, and that its ways to put facts together keep them true.
 use Prim.Native.Nat.{ℕ, _+_, _*_, _%_, _^_}
+use mathlib.Core.Option.{Option, none, some}
 use mathlib.Core.Path.{_≡_, refl}
 use mathlib.Core.List.{List}
 use mathlib.Core.Bool.{Bool, true, false, cond, _&&_, _||_, false≢true}
@@ -15,11 +16,11 @@ use Rattle.codegen.specs.declared.L4Set.the-variants.{One, TcpOrUdp}
 use Rattle.codegen.specs.declared.Known.{Known}
 use Rattle.codegen.specs.declared.Known.the-variants.{Is}
 use Rattle.codegen.specs.declared.Ports.{Ports}
-use Rattle.codegen.specs.declared.Ports.the-variants.{NotReady, Ready}
+use Rattle.codegen.specs.declared.Ports.the-variants.{NotReady}
 use Rattle.codegen.specs.declared.Facts.{Facts}
-use Rattle.codegen.specs.Facts.{contains, subsetOf, sameSet, join, fill, both, joinPorts, learnEthertype, learnIp4, learnIp6, restored, meet}
+use Rattle.codegen.specs.Facts.{readySet, contains, subsetOf, sameSet, join, fill, both, joinPorts, learnEthertype, learnIp4, learnIp6, restored, meet}
 use Rattle.codegen.specs.Emit.{netOffset}
-use Rattle.codegen.proofs.KnownLaws.{Says, SaysPorts, says-fill, says-left, says-right, sameSet-eq}
+use Rattle.codegen.proofs.KnownLaws.{Says, SaysPorts, says-ready, two-left, two-right, says-fill, says-left, says-right, sameSet-eq}
 
 -- ---- Bool
 
@@ -60,20 +61,16 @@ Grows q = (a b : L4Set) → subsetOf a b ≡ true → q a ≡ true → q b ≡ t
 
 -- a join passes what its set `s`, the left or the right, passes
 join-passes : (q : L4Set → Bool) → Grows q → (a b s : L4Set) → (sameSet a b ≡ true → q a ≡ true) → ((subsetOf a TcpOrUdp && subsetOf b TcpOrUdp) ≡ true → subsetOf s TcpOrUdp ≡ true)
-    → q s ≡ true → SaysPorts (join a b) (Passes q)
+    → q s ≡ true → SaysPorts (readySet (join a b)) (Passes q)
 join-passes q g a b s same sub h =
-    cases (λ k. SaysPorts k (Passes q)) (sameSet a b) same
-    (λ n. cases (λ k. SaysPorts k (Passes q)) (subsetOf a TcpOrUdp && subsetOf b TcpOrUdp) (λ e. g s TcpOrUdp (sub e) h) (λ e. tt))
+    cases (λ k. SaysPorts (readySet k) (Passes q)) (sameSet a b) (λ e. says-ready a (Passes q) (same e))
+    (λ n. cases (λ k. SaysPorts (readySet k) (Passes q)) (subsetOf a TcpOrUdp && subsetOf b TcpOrUdp) (λ e. g s TcpOrUdp (sub e) h) (λ e. tt))
 
-pub join-left : (q : L4Set → Bool) → Grows q → (k l : Ports) → SaysPorts k (Passes q) → SaysPorts (joinPorts k l) (Passes q)
-join-left q g NotReady l h = tt
-join-left q g (Ready a) NotReady h = tt
-join-left q g (Ready a) (Ready b) h = join-passes q g a b a (λ e. h) (and-left (subsetOf a TcpOrUdp) (subsetOf b TcpOrUdp)) h
+pub join-left : (q : L4Set → Bool) → Grows q → (k l : Ports) → SaysPorts (readySet k) (Passes q) → SaysPorts (readySet (joinPorts k l)) (Passes q)
+join-left q g k l = two-left join (Passes q) (λ a b h. join-passes q g a b a (λ e. h) (and-left (subsetOf a TcpOrUdp) (subsetOf b TcpOrUdp)) h) (readySet k) (readySet l)
 
-pub join-right : (q : L4Set → Bool) → Grows q → (k l : Ports) → SaysPorts l (Passes q) → SaysPorts (joinPorts k l) (Passes q)
-join-right q g NotReady l h = tt
-join-right q g (Ready a) NotReady h = tt
-join-right q g (Ready a) (Ready b) h = join-passes q g a b b (λ e. rw (sameSet-eq a b e) h) (and-right (subsetOf a TcpOrUdp) (subsetOf b TcpOrUdp)) h
+pub join-right : (q : L4Set → Bool) → Grows q → (k l : Ports) → SaysPorts (readySet l) (Passes q) → SaysPorts (readySet (joinPorts k l)) (Passes q)
+join-right q g k l = two-right join (Passes q) (λ a b h. join-passes q g a b b (λ e. rw (sameSet-eq a b e) h) (and-right (subsetOf a TcpOrUdp) (subsetOf b TcpOrUdp)) h) (readySet k) (readySet l)
 
 -- ---- RawIp keeps the ethertype 0x0800 with which it starts
 
@@ -132,7 +129,7 @@ module _ (L : LinkType) (f : List ℕ) where
     pub ethertype : Says (g .ethertype) (Passes (kind L f))
     pub ip4 : Says (g .«ip4_proto») (Passes (eqb (be 1 (netOffset L + 9) f)))
     pub ip6 : Says (g .«ip6_nh») (Passes (eqb (be 1 (netOffset L + 6) f)))
-    pub ports : SaysPorts (g .«ports_ready») (Passes (readyAt x))
+    pub ports : SaysPorts (readySet (g .«ports_ready»)) (Passes (readyAt x))
 
   pub holds-meet-left : (g h : Facts) (x : ℕ) → Holds g x → Holds (meet g h) x
   holds-meet-left g h x k =
@@ -152,7 +149,7 @@ module _ (L : LinkType) (f : List ℕ) where
         ports = join-right (readyAt x) (readyAt-grows x) (g .«ports_ready») (h .«ports_ready») (k .ports);
       }
 
-  kept-ports : (w : Bool) (k : Ports) (x y : ℕ) → (w ≡ false → y ≡ x) → SaysPorts k (Passes (readyAt x)) → SaysPorts (cond w NotReady k) (Passes (readyAt y))
+  kept-ports : (w : Bool) (k : Ports) (x y : ℕ) → (w ≡ false → y ≡ x) → SaysPorts (readySet k) (Passes (readyAt x)) → SaysPorts (readySet (cond w NotReady k)) (Passes (readyAt y))
   kept-ports true k x y e h = tt
   kept-ports false k x y e h = rw (e refl) h
 

@@ -3,7 +3,7 @@ use Prim.Native.Nat.{ℕ}
 use mathlib.Core.Path.{_≡_, refl, sym, _∙_}
 use mathlib.Core.List.{List, []}
 use mathlib.Core.Bool.{Bool, true, false, cond, _&&_, _||_, and-true}
-use mathlib.Core.Option.{Option}
+use mathlib.Core.Option.{Option, none, some}
 use Rattle.error.specs.Answer.{Out, refused, done, _>>=_}
 use Rattle.error.proofs.All.{cases, either, All, all-bind}
 use Rattle.bpf.specs.Bytes.{AreBytes}
@@ -16,17 +16,15 @@ use Rattle.direct.specs.Reading.{portSet, kind, ipv4, ipv6, readsProto, transpo
 use Rattle.codegen.specs.declared.L4Set.{L4Set}
 use Rattle.codegen.specs.declared.Known.{Known}
 use Rattle.codegen.specs.declared.Known.the-variants.{Unknown, Is}
-use Rattle.codegen.specs.declared.Ports.{Ports}
-use Rattle.codegen.specs.declared.Ports.the-variants.{NotReady, Ready}
 use Rattle.codegen.specs.declared.Facts.{Facts}
 use Rattle.codegen.specs.declared.GuardSet.{GuardSet}
-use Rattle.codegen.specs.Facts.{contains, noGuards, intersect}
+use Rattle.codegen.specs.Facts.{readySet, contains, noGuards, intersect}
 use Rattle.codegen.specs.Protocols.{l4setFor}
 use Rattle.codegen.specs.Guards.{guards, setOf, primitiveGuards, requiredGuards}
 use Rattle.codegen.specs.Block.{Block, settle, turn, otherwise, resolved, far, writesX, success}
 use Rattle.codegen.specs.Emit.{isRaw, Code, code, emitEthertype, emitIp4L4, emitIp6L4, hoistKnown, hoistPorts, orHoist, emit, restoredAfter}
 use Rattle.codegen.proofs.Laws.{Never, Maybe, seq, settled, else, negated, equal, allow, learning, known, kept}
-use Rattle.codegen.proofs.KnownLaws.{Says, SaysPorts, GuardsSay, union-says, intersect-left, intersect-right}
+use Rattle.codegen.proofs.KnownLaws.{Says, SaysPorts, says-ready, GuardsSay, union-says, intersect-left, intersect-right}
 use Rattle.codegen.proofs.FactsHold.{and-left, and-right, and-both, or-cases, Passes, Raw, raw-both, hasPorts, headerLength, Holds, holds-meet-left, holds-meet-right, holds-restored}
 use Rattle.codegen.proofs.Prologue.{prereqs-ready, prereqs-ethertype}
 use Rattle.codegen.proofs.Conditions.{set-same, transport-is, Emits, ethertype-emits, ip4-emits, ip6-emits, condition-emits}
@@ -69,12 +67,12 @@ module _ (L : LinkType) (f : List ℕ) where
   meets-only : (v : ℕ) → kind L f v ≡ true → Meets (guards v Unknown Unknown)
   meets-only v e = record { ethertype = e; ip4 = tt; ip6 = tt; ports = tt }
 
-  transport-ports : (p : Option Proto) (ask : ℕ → Bool) → transport L f (portSet p) ask ≡ true → SaysPorts (setOf (l4setFor p)) (Passes (hasPorts L f))
+  transport-ports : (p : Option Proto) (ask : ℕ → Bool) → transport L f (portSet p) ask ≡ true → SaysPorts (readySet (setOf (l4setFor p))) (Passes (hasPorts L f))
   transport-ports p ask e = go (l4setFor p) (set-same p)
     where
-      go : (o : Out L4Set) → All (λ want. (q : ℕ) → portSet p q ≡ contains want q) o → SaysPorts (setOf o) (Passes (hasPorts L f))
+      go : (o : Out L4Set) → All (λ want. (q : ℕ) → portSet p q ≡ contains want q) o → SaysPorts (readySet (setOf o)) (Passes (hasPorts L f))
       go (refused r) h = tt
-      go (done want) h = and-left (hasPorts L f want) (ask (headerLength L f)) (sym (transport-is L f (portSet p) want ask h) ∙ e)
+      go (done want) h = says-ready want (Passes (hasPorts L f)) (and-left (hasPorts L f want) (ask (headerLength L f)) (sym (transport-is L f (portSet p) want ask h) ∙ e))
 
   proto-meets : (p : Proto) → readsProto L f p ≡ true → Meets (primitiveGuards (Protocol p))
   unfolding primitiveGuards readsProto
@@ -126,9 +124,9 @@ module _ (L : LinkType) (f : List ℕ) where
   asks Unknown q = true
   asks (Is a) q = q a
 
-  abbrev asksPorts : Ports → (L4Set → Bool) → Bool
-  asksPorts NotReady q = true
-  asksPorts (Ready a) q = q a
+  abbrev asksPorts : Option L4Set → (L4Set → Bool) → Bool
+  asksPorts none q = true
+  asksPorts (some a) q = q a
 
   hoist-known : (k : Known) (e : ℕ → Facts → Out Code) (q : ℕ → Bool) → ((v : ℕ) (g : Facts) → Raw L (g .ethertype) → All (Emits L f Never g (q v)) (e v g))
       → (g : Facts) (P : Bool) (c : Code) → Emits L f Never g P c → All (Emits L f Never g (P && asks k q)) (hoistKnown L k e c)
@@ -136,9 +134,9 @@ module _ (L : LinkType) (f : List ℕ) where
   hoist-known (Is v) e q h g P c k =
       all-bind (Emits L f Never (c .facts) (q v)) _ (e v (c .facts)) _ (h v (c .facts) (k .raw)) (λ d j. record { decides = seq (k .decides) (j .decides); raw = j .raw })
 
-  hoist-ports : (k : Ports) (g : Facts) (P : Bool) (c : Code) → Emits L f Never g P c → All (Emits L f Never g (P && asksPorts k (hasPorts L f))) (hoistPorts L k c)
-  hoist-ports NotReady g P c k = record { decides = equal (sym (and-true P)) (k .decides); raw = k .raw }
-  hoist-ports (Ready want) g P c k =
+  hoist-ports : (k : Option L4Set) (g : Facts) (P : Bool) (c : Code) → Emits L f Never g P c → All (Emits L f Never g (P && asksPorts k (hasPorts L f))) (hoistPorts L k c)
+  hoist-ports none g P c k = record { decides = equal (sym (and-true P)) (k .decides); raw = k .raw }
+  hoist-ports (some want) g P c k =
       record {
         decides = seq (k .decides) (learning (λ a x e h. h .0) (prereqs-ready L f want (c .facts) (k .raw)));
         raw = rw (prereqs-ethertype L f want (c .facts)) (k .raw);
@@ -148,7 +146,7 @@ module _ (L : LinkType) (f : List ℕ) where
   abbrev wanted : GuardSet → Bool
   wanted r =
       (((true && asks (cond (isRaw L) Unknown (r .ethertype)) (kind L f)) && asks (r .«ip4_proto») (ipv4 L f)) && asks (r .«ip6_nh») (ipv6 L f))
-      && asksPorts (r .«port_prereqs») (hasPorts L f)
+      && asksPorts (readySet (r .«port_prereqs»)) (hasPorts L f)
 
   hoist-emits : (r : GuardSet) (g : Facts) → Raw L (g .ethertype) → All (Emits L f Never g (wanted r)) (orHoist L r g)
   unfolding orHoist
@@ -159,15 +157,15 @@ module _ (L : LinkType) (f : List ℕ) where
       (hoist-known (r .«ip4_proto») (emitIp4L4 L) (ipv4 L f) (ip4-emits L f) g _ a h)
       (λ b h. all-bind _ _ (hoistKnown L (r .«ip6_nh») (emitIp6L4 L) b) _
       (hoist-known (r .«ip6_nh») (emitIp6L4 L) (ipv6 L f) (ip6-emits L f) g _ b h)
-      (λ c h. hoist-ports (r .«port_prereqs») g _ c h)))
+      (λ c h. hoist-ports (readySet (r .«port_prereqs»)) g _ c h)))
 
   says-asks : (k : Known) (q : ℕ → Bool) → Says k (Passes q) → asks k q ≡ true
   says-asks Unknown q h = refl
   says-asks (Is a) q h = h
 
-  says-asksPorts : (k : Ports) (q : L4Set → Bool) → SaysPorts k (Passes q) → asksPorts k q ≡ true
-  says-asksPorts NotReady q h = refl
-  says-asksPorts (Ready a) q h = h
+  says-asksPorts : (k : Option L4Set) (q : L4Set → Bool) → SaysPorts k (Passes q) → asksPorts k q ≡ true
+  says-asksPorts none q h = refl
+  says-asksPorts (some a) q h = h
 
   meets-wanted : (r : GuardSet) → Meets r → wanted r ≡ true
   meets-wanted r m =
@@ -175,7 +173,7 @@ module _ (L : LinkType) (f : List ℕ) where
       (and-both _ _
       (and-both _ _ (says-asks (cond (isRaw L) Unknown (r .ethertype)) (kind L f) (either (λ k. Says k (Passes (kind L f))) (isRaw L) tt (m .ethertype))) (says-asks (r .«ip4_proto») (ipv4 L f) (m .ip4)))
       (says-asks (r .«ip6_nh») (ipv6 L f) (m .ip6)))
-      (says-asksPorts (r .«port_prereqs») (hasPorts L f) (m .ports))
+      (says-asksPorts (readySet (r .«port_prereqs»)) (hasPorts L f) (m .ports))
 
   -- ---- the tree
 

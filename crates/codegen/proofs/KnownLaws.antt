@@ -1,5 +1,6 @@
 -- What holds of a value that is known, and of a set that ports are ready for: the ways to put facts and guards together keep it.
 use Prim.Native.Nat.{ℕ}
+use mathlib.Core.Option.{Option, none, some}
 use mathlib.Core.Path.{_≡_, refl, ap}
 use mathlib.Core.Bool.{true, false≢true}
 use lib.Dec.{eqb}
@@ -10,17 +11,21 @@ use Rattle.codegen.specs.declared.L4Set.the-variants.{One, TcpOrUdp}
 use Rattle.codegen.specs.declared.Known.{Known}
 use Rattle.codegen.specs.declared.Known.the-variants.{Unknown, Is}
 use Rattle.codegen.specs.declared.Ports.{Ports}
-use Rattle.codegen.specs.declared.Ports.the-variants.{NotReady, Ready}
+use Rattle.codegen.specs.declared.Ports.the-variants.{NotReady, ReadyOne, ReadyTcpOrUdp}
 use Rattle.codegen.specs.declared.GuardSet.{GuardSet}
-use Rattle.codegen.specs.Facts.{sameSet, fill, holds, both, or, bothPorts, orPorts, union, intersect}
+use Rattle.codegen.specs.Facts.{ready, readySet, ofTwo, sameSet, fill, holds, both, or, bothPorts, orPorts, union, intersect}
 
 abbrev pub Says : Known → (ℕ → Type 0) → Type 0
 Says Unknown q = Unit {0}
 Says (Is a) q = q a
 
-abbrev pub SaysPorts : Ports → (L4Set → Type 0) → Type 0
-SaysPorts NotReady q = Unit {0}
-SaysPorts (Ready a) q = q a
+abbrev pub SaysPorts : Option L4Set → (L4Set → Type 0) → Type 0
+SaysPorts none q = Unit {0}
+SaysPorts (some a) q = q a
+
+pub says-ready : (s : L4Set) (q : L4Set → Type 0) → q s → SaysPorts (readySet (ready s)) q
+says-ready (One n) q h = h
+says-ready TcpOrUdp q h = h
 
 pub says-fill : (k : Known) (q : ℕ → Type 0) (a : ℕ) → Says k q → q a → Says (fill k a) q
 says-fill Unknown q a h e = e
@@ -50,19 +55,29 @@ sameSet-eq (One p) TcpOrUdp e = absurd (false≢true e)
 sameSet-eq TcpOrUdp (One q) e = absurd (false≢true e)
 sameSet-eq TcpOrUdp TcpOrUdp e = refl
 
-ports-or : (k l : Ports) (q : L4Set → Type 0) → SaysPorts k q → SaysPorts l q → SaysPorts (orPorts k l) q
+ports-or : (k l : Ports) (q : L4Set → Type 0) → SaysPorts (readySet k) q → SaysPorts (readySet l) q → SaysPorts (readySet (orPorts k l)) q
 ports-or NotReady l q h j = j
-ports-or (Ready a) l q h j = h
+ports-or (ReadyOne n) l q h j = h
+ports-or ReadyTcpOrUdp l q h j = h
 
-ports-left : (k l : Ports) (q : L4Set → Type 0) → SaysPorts k q → SaysPorts (bothPorts k l) q
-ports-left NotReady l q h = tt
-ports-left (Ready a) NotReady q h = tt
-ports-left (Ready a) (Ready b) q h = either (λ k. SaysPorts k q) (sameSet a b) h tt
+-- what is made of two sets says what each of them does, if that holds of every two
+pub two-left : (f : L4Set → L4Set → Ports) (q : L4Set → Type 0) → ((a b : L4Set) → q a → SaysPorts (readySet (f a b)) q)
+    → (k l : Option L4Set) → SaysPorts k q → SaysPorts (readySet (ofTwo f k l)) q
+two-left f q w none l h = tt
+two-left f q w (some a) none h = tt
+two-left f q w (some a) (some b) h = w a b h
 
-ports-right : (k l : Ports) (q : L4Set → Type 0) → SaysPorts l q → SaysPorts (bothPorts k l) q
-ports-right NotReady l q h = tt
-ports-right (Ready a) NotReady q h = tt
-ports-right (Ready a) (Ready b) q h = cases (λ k. SaysPorts k q) (sameSet a b) (λ e. rw (sameSet-eq a b e) h) (λ e. tt)
+pub two-right : (f : L4Set → L4Set → Ports) (q : L4Set → Type 0) → ((a b : L4Set) → q b → SaysPorts (readySet (f a b)) q)
+    → (k l : Option L4Set) → SaysPorts l q → SaysPorts (readySet (ofTwo f k l)) q
+two-right f q w none l h = tt
+two-right f q w (some a) none h = tt
+two-right f q w (some a) (some b) h = w a b h
+
+ports-left : (k l : Ports) (q : L4Set → Type 0) → SaysPorts (readySet k) q → SaysPorts (readySet (bothPorts k l)) q
+ports-left k l q = two-left _ q (λ a b h. either (λ p. SaysPorts (readySet p) q) (sameSet a b) (says-ready a q h) tt) (readySet k) (readySet l)
+
+ports-right : (k l : Ports) (q : L4Set → Type 0) → SaysPorts (readySet l) q → SaysPorts (readySet (bothPorts k l)) q
+ports-right k l q = two-right _ q (λ a b h. cases (λ p. SaysPorts (readySet p) q) (sameSet a b) (λ e. says-ready a q (rw (sameSet-eq a b e) h)) (λ e. tt)) (readySet k) (readySet l)
 
 -- ---- guards
 
@@ -70,7 +85,7 @@ pub record GuardsSay (e p n : ℕ → Type 0) (s : L4Set → Type 0) (g : GuardS
   pub ethertype : Says (g .ethertype) e
   pub ip4 : Says (g .«ip4_proto») p
   pub ip6 : Says (g .«ip6_nh») n
-  pub ports : SaysPorts (g .«port_prereqs») s
+  pub ports : SaysPorts (readySet (g .«port_prereqs»)) s
 
 module _ {e p n : ℕ → Type 0} {s : L4Set → Type 0} (g h : GuardSet) where
   pub union-says : GuardsSay e p n s g → GuardsSay e p n s h → GuardsSay e p n s (union g h)

@@ -17,15 +17,15 @@ use Rattle.codegen.specs.declared.L4Set.the-variants.{One, TcpOrUdp}
 use Rattle.codegen.specs.declared.Known.{Known}
 use Rattle.codegen.specs.declared.Known.the-variants.{Unknown, Is}
 use Rattle.codegen.specs.declared.Ports.{Ports}
-use Rattle.codegen.specs.declared.Ports.the-variants.{NotReady, Ready}
+use Rattle.codegen.specs.declared.Ports.the-variants.{NotReady}
 use Rattle.codegen.specs.declared.Facts.{Facts}
-use Rattle.codegen.specs.Facts.{contains, holds, readyFor, learnIp4, learnIp6, withPorts}
+use Rattle.codegen.specs.Facts.{ready, readySet, asStrict, contains, holds, readyFor, learnIp4, learnIp6, withPorts}
 use Rattle.codegen.specs.Block.{byte, half, jeq, jset}
 use Rattle.codegen.specs.Block.{Block}
 use Rattle.codegen.specs.Emit.{netOffset, etherProtoOffset, Code, code, l4SetCheck, l4Check, header4, header6, fork, dualPath, Prologue, pinned, version, learnSet, established, dual, portPrereqs}
 use Rattle.codegen.proofs.Laws.{With, OfX, Never, Decides, seq, equal, given, learning, known, load, loadX, setX, needed, barred, over, forked, supposing, lastly}
 use Rattle.codegen.proofs.Numbers.{low-zero}
-use Rattle.codegen.proofs.KnownLaws.{Says, SaysPorts, says-holds}
+use Rattle.codegen.proofs.KnownLaws.{Says, SaysPorts, says-ready, says-holds}
 use Rattle.codegen.proofs.FactsHold.{and-left, and-right, and-both, Passes, Raw, firstPart, hasPorts, headerLength, hasPorts-grows, readyAt, Holds, holds-restored, holds-ip4, holds-ip6}
 
 module _ {f : List ℕ} {G : ℕ → Type 0} where
@@ -70,13 +70,13 @@ module _ (L : LinkType) (f : List ℕ) where
   Ported g x = Holds L f g x × (x ≡ headerLength L f)
 
   -- ports are ready
-  readied : (g : Facts) (set : L4Set) (x : ℕ) → Holds L f (withPorts g NotReady) x → x ≡ headerLength L f → hasPorts L f set ≡ true → Ported (withPorts g (Ready set)) x
+  readied : (g : Facts) (set : L4Set) (x : ℕ) → Holds L f (withPorts g NotReady) x → x ≡ headerLength L f → hasPorts L f set ≡ true → Ported (withPorts g (ready set)) x
   readied g set x h e p = (
     record {
       ethertype = h .ethertype;
       ip4 = h .ip4;
       ip6 = h .ip6;
-      ports = and-both (hasPorts L f set) (eqb x (headerLength L f)) p (eq-eqb x (headerLength L f) e);
+      ports = says-ready set (Passes (readyAt L f x)) (and-both (hasPorts L f set) (eqb x (headerLength L f)) p (eq-eqb x (headerLength L f) e));
     },
     e,
   )
@@ -116,10 +116,10 @@ module _ (L : LinkType) (f : List ℕ) where
             (equal (sym (has want ∙ ap (λ n. contains want n && Z) (eqb-true (be 1 at f) p q) ∙ ap (λ b. b && Z) e)) (base g)))
         go false e = fresh want g
 
-    version-block : (want : L4Set) (r : Ports) (k : Known) (g : Facts)
+    version-block : (want : L4Set) (r : Option L4Set) (k : Known) (g : Facts)
         → ((x : ℕ) → Holds L f g x → SaysPorts r (Passes (readyAt L f x))) → ((x : ℕ) → Holds L f g x → Says k (Passes (eqb (be 1 at f))))
         → Decides f Never (OfX (Holds L f g)) (version r k at want header .block) (hasPorts L f want) (OfX (Passed g (version r k at want header .set)))
-    version-block want (Ready have) k g i j =
+    version-block want (some have) k g i j =
         supposing (λ a x h. and-right (contains have (be 1 at f)) Z (sym (has have) ∙ and-left (hasPorts L f have) (eqb x (headerLength L f)) (i x h)))
         (λ z. learning
         (λ a x e h. (
@@ -128,26 +128,26 @@ module _ (L : LinkType) (f : List ℕ) where
           e,
         ))
         (equal (sym (has want ∙ ap (λ b. contains want (be 1 at f) && b) z ∙ and-true _)) (l4-decides at want)))
-    version-block want NotReady k g i j = pinned-decides want k g j
+    version-block want none k g i j = pinned-decides want k g j
 
     module _ (get : Facts → Known) (learn : Facts → ℕ → Facts)
         (gets : (g : Facts) (x : ℕ) → Holds L f g x → Says (get g) (Passes (eqb (be 1 at f))))
         (learns : (g : Facts) (p x : ℕ) → Holds L f g x → eqb (be 1 at f) p ≡ true → Holds L f (learn g p) x)
         (keeps : (g : Facts) (p : ℕ) (r : Ports) → learn (withPorts g r) p ≡ withPorts (learn g p) r) where
-      learned : (g : Facts) (set : L4Set) (x : ℕ) → Passed g set x → Ported (withPorts (learnSet learn g set) (Ready set)) x
+      learned : (g : Facts) (set : L4Set) (x : ℕ) → Passed g set x → Ported (withPorts (learnSet learn g set) (ready set)) x
       learned g (One p) x h =
           let k = readied g (One p) x (h .0) (h .1 ∙ sym long) (h .2) in (
-            rw (← keeps g p (Ready (One p)))
-                (learns (withPorts g (Ready (One p))) p x (k .0) (and-left (eqb (be 1 at f) p) Z (sym (has (One p)) ∙ h .2))),
+            rw (← keeps g p (ready (One p)))
+                (learns (withPorts g (ready (One p))) p x (k .0) (and-left (eqb (be 1 at f) p) Z (sym (has (One p)) ∙ h .2))),
             k .1,
           )
       learned g TcpOrUdp x h = readied g TcpOrUdp x (h .0) (h .1 ∙ sym long) (h .2)
 
       version-decides : (want : L4Set) (g : Facts)
-          → let c = established learn g (version (g .«ports_ready») (get g) at want header) in
+          → let c = established learn g (version (readySet (g .«ports_ready»)) (get g) at want header) in
           Decides f Never (OfX (Holds L f g)) (c .block) (hasPorts L f want) (OfX (Ported (c .facts)))
       version-decides want g =
-          learning (λ a x e h. learned g _ x h) (version-block want (g .«ports_ready») (get g) g (λ x h. h .ports) (λ x h. gets g x h))
+          learning (λ a x e h. learned g _ x h) (version-block want (readySet (g .«ports_ready»)) (get g) g (λ x h. h .ports) (λ x h. gets g x h))
 
   -- ---- the kinds exclude one another
 
@@ -189,15 +189,15 @@ module _ (L : LinkType) (f : List ℕ) where
   abbrev pub Readies : Facts → L4Set → Code → Type 0
   Readies g want c = Decides f Never (OfX (Holds L f g)) (c .block) (hasPorts L f want) (OfX (Ported (c .facts)))
 
-  already : (r : Ports) (want : L4Set) (x : ℕ) → readyFor r want ≡ true → SaysPorts r (Passes (readyAt L f x)) → (hasPorts L f want ≡ true) × (x ≡ headerLength L f)
-  already NotReady want x e h = absurd (false≢true e)
-  already (Ready have) want x e h = (
+  already : (r : Option L4Set) (want : L4Set) (x : ℕ) → asStrict r want ≡ true → SaysPorts r (Passes (readyAt L f x)) → (hasPorts L f want ≡ true) × (x ≡ headerLength L f)
+  already none want x e h = absurd (false≢true e)
+  already (some have) want x e h = (
     hasPorts-grows L f have want e (and-left (hasPorts L f have) (eqb x (headerLength L f)) h),
     eqb-true x (headerLength L f) (and-right (hasPorts L f have) (eqb x (headerLength L f)) h),
   )
 
   known-4 : (want : L4Set) (g : Facts) → holds (g .ethertype) 0x0800 ≡ true
-      → Readies g want (established learnIp4 g (version (g .«ports_ready») (g .«ip4_proto») (netOffset L + 9) want (header4 (netOffset L))))
+      → Readies g want (established learnIp4 g (version (readySet (g .«ports_ready»)) (g .«ip4_proto») (netOffset L + 9) want (header4 (netOffset L))))
   known-4 want g e =
       supposing (λ a x h. says-holds (g .ethertype) 0x0800 (Passes (kind L f)) (h .ethertype) e)
       (λ k. version-decides (netOffset L + 9) (4 * (be 1 (netOffset L) f % 16)) (firstPart L f) (header4 (netOffset L))
@@ -205,7 +205,7 @@ module _ (L : LinkType) (f : List ℕ) where
       (λ g x h. h .ip4) (λ g p x h. holds-ip4 L f g p x h) (λ g p r. refl) want g)
 
   known-6 : (want : L4Set) (g : Facts) → holds (g .ethertype) 0x86dd ≡ true
-      → Readies g want (established learnIp6 g (version (g .«ports_ready») (g .«ip6_nh») (netOffset L + 6) want header6))
+      → Readies g want (established learnIp6 g (version (readySet (g .«ports_ready»)) (g .«ip6_nh») (netOffset L + 6) want header6))
   known-6 want g e =
       supposing (λ a x h. says-holds (g .ethertype) 0x86dd (Passes (kind L f)) (h .ethertype) e)
       (λ k. version-decides (netOffset L + 6) 40 true header6
@@ -233,7 +233,7 @@ module _ (L : LinkType) (f : List ℕ) where
     unfolding Bare
     bare n x h = (holds-restored L f true g x n h (λ e. absurd (true≢false e)), refl)
 
-    dual-decides : Readies g want (code (dualPath off (netOffset L) want) (withPorts g (Ready want)))
+    dual-decides : Readies g want (code (dualPath off (netOffset L) want) (withPorts g (ready want)))
     unfolding dualPath fork Bare four
     dual-decides =
         equal dual-ports
@@ -246,19 +246,19 @@ module _ (L : LinkType) (f : List ℕ) where
         (λ e. learning (λ a x p h. passed-6 (sym (at-off 0x86dd) ∙ e) x p h)
         (given (λ a x g. g .1) (seq (l4-decides (netOffset L + 6) want) (header6-decides (Bare 40) (bare 40)))))))
       where
-        passed-4 : (x : ℕ) → (eqb (be 2 off f) 0x0800 && four) ≡ true → Bare (4 * (be 1 (netOffset L) f % 16)) x → Ported (withPorts g (Ready want)) x
+        passed-4 : (x : ℕ) → (eqb (be 2 off f) 0x0800 && four) ≡ true → Bare (4 * (be 1 (netOffset L) f % 16)) x → Ported (withPorts g (ready want)) x
         passed-4 x p h =
             let k = sym (at-off 0x0800) ∙ and-left (eqb (be 2 off f) 0x0800) four p in
             readied g want x (h .0) (h .1 ∙ sym (header-4 k)) (ports-4 k want ∙ and-right (eqb (be 2 off f) 0x0800) four p)
 
-        passed-6 : kind L f 0x86dd ≡ true → (x : ℕ) → (contains want (be 1 (netOffset L + 6) f) && true) ≡ true → Bare 40 x → Ported (withPorts g (Ready want)) x
+        passed-6 : kind L f 0x86dd ≡ true → (x : ℕ) → (contains want (be 1 (netOffset L + 6) f) && true) ≡ true → Bare 40 x → Ported (withPorts g (ready want)) x
         passed-6 k x p h = readied g want x (h .0) (h .1 ∙ sym (header-6 k)) (ports-6 k want ∙ p)
 
   pub prereqs-ready : (want : L4Set) (g : Facts) → Raw L (g .ethertype) → Readies g want (portPrereqs L want g)
   unfolding portPrereqs
   prereqs-ready want g r =
       cases (Readies g want) (readyFor (g .«ports_ready») want)
-      (λ e. known (λ a x h. let k = already (g .«ports_ready») want x e (h .ports) in (k .0, (h, k .1))))
+      (λ e. known (λ a x h. let k = already (readySet (g .«ports_ready»)) want x e (h .ports) in (k .0, (h, k .1))))
       (λ e. cases (Readies g want) (holds (g .ethertype) 0x0800) (known-4 want g)
       (λ n. cases (Readies g want) (holds (g .ethertype) 0x86dd) (known-6 want g) (λ m. go (etherProtoOffset L) refl n)))
     where
@@ -271,8 +271,8 @@ module _ (L : LinkType) (f : List ℕ) where
   unfolding portPrereqs
   prereqs-ethertype want g =
       either Keeps (readyFor (g .«ports_ready») want) refl
-      (either Keeps (holds (g .ethertype) 0x0800) (learnt learnIp4 (λ n. refl) (version (g .«ports_ready») (g .«ip4_proto») (netOffset L + 9) want (header4 (netOffset L)) .set))
-      (either Keeps (holds (g .ethertype) 0x86dd) (learnt learnIp6 (λ n. refl) (version (g .«ports_ready») (g .«ip6_nh») (netOffset L + 6) want header6 .set))
+      (either Keeps (holds (g .ethertype) 0x0800) (learnt learnIp4 (λ n. refl) (version (readySet (g .«ports_ready»)) (g .«ip4_proto») (netOffset L + 9) want (header4 (netOffset L)) .set))
+      (either Keeps (holds (g .ethertype) 0x86dd) (learnt learnIp6 (λ n. refl) (version (readySet (g .«ports_ready»)) (g .«ip6_nh») (netOffset L + 6) want header6 .set))
       (dual-keeps (etherProtoOffset L))))
     where
       Keeps : Code → Type 0

@@ -13,13 +13,12 @@ use Rattle.ast.specs.declared.Dir.the-variants.{SrcOrDst, Src, Dst, SrcAndDst}
 use Rattle.ast.specs.Tree.{Proto, Ip, Ip6, Arp, Rarp, Tcp, Udp, Icmp, Icmp6, Igmp, Sctp, Num, Ip6Proto}
 use Rattle.ast.specs.Tree.{Primitive, Protocol, Host4, Host6, Net, Net6, Port, PortRange, EtherHost, EtherProto, EtherMulticast, IpBroadcast, IpMulticast, Ip6Multicast, IpProtoChain, Ip6ProtoChain}
 use Rattle.ast.specs.Tree.{Expr, Leaf, And, Or, Not}
+use Rattle.codegen.specs.declared.L4Set.{L4Set}
 use Rattle.codegen.specs.declared.Known.{Known}
 use Rattle.codegen.specs.declared.Known.the-variants.{Unknown, Is}
-use Rattle.codegen.specs.declared.Ports.{Ports}
-use Rattle.codegen.specs.declared.Ports.the-variants.{NotReady, Ready}
 use Rattle.codegen.specs.declared.Facts.{Facts}
 use Rattle.codegen.specs.declared.GuardSet.{GuardSet}
-use Rattle.codegen.specs.Facts.{holds}
+use Rattle.codegen.specs.Facts.{readySet, holds}
 use Rattle.codegen.specs.Protocols.{rowOf, smallOf, known, l4setFor}
 use Rattle.codegen.specs.Block.{Block, far, resolved}
 use Rattle.codegen.specs.Emit.{etherProtoOffset, isRaw, Code, code, ethertypeAt, emitEthertype, guarded, emitL4, emitIp4L4, emitIp6L4, emitRow, ported, ether, emitPrimitive, hoistKnown, hoistPorts, orHoist, emit}
@@ -112,9 +111,9 @@ module _ (L : LinkType) where
   known-turned Unknown e h c = tt
   known-turned (Is v) e h c = turned-bind Late (e v (c .facts)) _ (h v (c .facts)) (λ d. tt)
 
-  ports-turned : (p : Ports) (c : Code) → Turned Late (hoistPorts L p c)
-  ports-turned NotReady c = tt
-  ports-turned (Ready want) c = tt
+  ports-turned : (p : Option L4Set) (c : Code) → Turned Late (hoistPorts L p c)
+  ports-turned none c = tt
+  ports-turned (some want) c = tt
 
   hoist-turned : (r : GuardSet) (g : Facts) → Turned Late (orHoist L r g)
   unfolding orHoist
@@ -123,7 +122,7 @@ module _ (L : LinkType) where
       turned-bind Late (hoistKnown L e (emitEthertype L) (code [] g)) _ (known-turned e _ kind-turned (code [] g))
       (λ a. turned-bind Late (hoistKnown L (r .«ip4_proto») (emitIp4L4 L) a) _ (known-turned (r .«ip4_proto») _ ip4-turned a)
       (λ b. turned-bind Late (hoistKnown L (r .«ip6_nh») (emitIp6L4 L) b) _ (known-turned (r .«ip6_nh») _ ip6-turned b)
-      (λ c. ports-turned (r .«port_prereqs») c)))
+      (λ c. ports-turned (readySet (r .«port_prereqs»)) c)))
 
   tree-turned : (t : Expr) (g : Facts) → Turned Late (emit L t g)
   unfolding emit

@@ -27,17 +27,16 @@ use Rattle.codegen.specs.declared.L4Set.the-variants.{One, TcpOrUdp}
 use Rattle.codegen.specs.declared.Known.{Known}
 use Rattle.codegen.specs.declared.Known.the-variants.{Unknown, Is}
 use Rattle.codegen.specs.declared.Ports.{Ports}
-use Rattle.codegen.specs.declared.Ports.the-variants.{NotReady, Ready}
 use Rattle.codegen.specs.declared.Facts.{Facts}
 use Rattle.codegen.specs.declared.GuardSet.{GuardSet}
-use Rattle.codegen.specs.Facts.{contains, holds, readyFor, learnIp4, learnIp6, intersect}
+use Rattle.codegen.specs.Facts.{readySet, contains, holds, readyFor, learnIp4, learnIp6, intersect}
 use Rattle.codegen.specs.Protocols.{rowOf, smallOf, known, l4setFor}
 use Rattle.codegen.specs.Guards.{guards, setOf, primitiveGuards, requiredGuards}
 use Rattle.codegen.specs.Block.{half, jeq, Side, success, failure, leave, jt, test}
 use Rattle.codegen.specs.Block.{Block, settle, turn, otherwise}
 use Rattle.codegen.specs.Emit.{netOffset, etherProtoOffset, isRaw, Code, code, need, check, checkLoads, checkBlocks, checkIp6Addr, mask16, checkNet6, checkRange, checkMac, l4SetCheck, l4Check, header4, header6, fork, dualPath, Prologue, version, dual, emitEthertype, guarded, emitL4, emitIp4L4, emitIp6L4, emitRow, portPrereqs, ported, ether, emitPrimitive, hoistKnown, hoistPorts, orHoist, emit, restoredAfter}
 use Rattle.codegen.proofs.Semantics.{length-settle}
-use Rattle.codegen.proofs.KnownLaws.{Says, SaysPorts, GuardsSay, union-says, intersect-left}
+use Rattle.codegen.proofs.KnownLaws.{Says, SaysPorts, says-ready, GuardsSay, union-says, intersect-left}
 use Rattle.codegen.proofs.Joins.{resolved-then}
 use Rattle.codegen.proofs.Near.{Made, made-append, made-settle, made-turn, length-turn}
 
@@ -51,7 +50,7 @@ abbrev pub SmallKnown : Known → Type 0
 SmallKnown k = Says k Word
 
 abbrev pub SmallPorts : Ports → Type 0
-SmallPorts p = SaysPorts p SmallSet
+SmallPorts p = SaysPorts (readySet p) SmallSet
 
 abbrev pub SmallGuards : GuardSet → Type 0
 SmallGuards g = GuardsSay Word Word Word SmallSet g
@@ -73,7 +72,7 @@ set-small (some (Ip6Proto n)) = tt
 
 ports-small : (o : Out L4Set) → All SmallSet o → SmallPorts (setOf o)
 ports-small (refused r) h = tt
-ports-small (done s) h = h
+ports-small (done s) h = says-ready s SmallSet h
 
 proto-small : (p : Proto) → ProperProto p → SmallGuards (primitiveGuards (Protocol p))
 unfolding primitiveGuards
@@ -189,11 +188,11 @@ module _ {N : ℕ} where
   l4Check-shape at (One n) h i = omega arith
   l4Check-shape at TcpOrUdp h i = omega arith
 
-  version-shape : (r : Ports) (q : Known) (at : ℕ) (s : L4Set) {header : Block} → at + 1 ≤ N → SmallSet s → Shaped N 3 header
+  version-shape : (r : Option L4Set) (q : Known) (at : ℕ) (s : L4Set) {header : Block} → at + 1 ≤ N → SmallSet s → Shaped N 3 header
       → Shaped N 6 (version r q at s header .block)
-  version-shape NotReady Unknown at s h i j = joined (l4Check-shape at s h i) j
-  version-shape NotReady (Is p) at s h i j = either (λ (p : Prologue). Shaped N 6 (p .block)) (contains s p) (more 6 (omega arith) j) (joined (l4Check-shape at s h i) j)
-  version-shape (Ready r) q at s h i j = more 6 (omega arith) (l4Check-shape at s h i)
+  version-shape none Unknown at s h i j = joined (l4Check-shape at s h i) j
+  version-shape none (Is p) at s h i j = either (λ (p : Prologue). Shaped N 6 (p .block)) (contains s p) (more 6 (omega arith) j) (joined (l4Check-shape at s h i) j)
+  version-shape (some r) q at s h i j = more 6 (omega arith) (l4Check-shape at s h i)
 
 -- at most so many lines for a tree
 abbrev pub weight : Expr → ℕ
@@ -242,8 +241,8 @@ module _ (L : LinkType) where
   unfolding portPrereqs header4 header6
   prereqs-shape s g i =
       either (Fits L 14) (readyFor (g .«ports_ready») s) (omega arith)
-      (either (Fits L 14) (holds (g .ethertype) 0x0800) (more 14 (omega arith) (version-shape (g .«ports_ready») (g .«ip4_proto») (netOffset L + 9) s (omega arith) i (omega arith)))
-      (either (Fits L 14) (holds (g .ethertype) 0x86dd) (more 14 (omega arith) (version-shape (g .«ports_ready») (g .«ip6_nh») (netOffset L + 6) s (omega arith) i (omega arith)))
+      (either (Fits L 14) (holds (g .ethertype) 0x0800) (more 14 (omega arith) (version-shape (readySet (g .«ports_ready»)) (g .«ip4_proto») (netOffset L + 9) s (omega arith) i (omega arith)))
+      (either (Fits L 14) (holds (g .ethertype) 0x86dd) (more 14 (omega arith) (version-shape (readySet (g .«ports_ready»)) (g .«ip6_nh») (netOffset L + 6) s (omega arith) i (omega arith)))
       (dual-shape L s g i)))
 
   ported-shape : (p : Option Proto) (g : Facts) {n : ℕ} {b : Block} → Shaped (netOffset L + 64) n b → n ≤ 23 → All (Fits L 37) (ported L p b g)
@@ -295,9 +294,9 @@ module _ (L : LinkType) where
   known-shape m n Unknown e i h c k = more (m + n) (omega arith) k
   known-shape m n (Is v) e i h c k = all-bind (Fits L n) (Fits L (m + n)) (e v (c .facts)) _ (h v (c .facts) i) (λ d j. joined k j)
 
-  ports-shape : (m : ℕ) (p : Ports) → SmallPorts p → (c : Code) → Fits L m c → All (Fits L (m + 14)) (hoistPorts L p c)
-  ports-shape m NotReady i c k = more (m + 14) (omega arith) k
-  ports-shape m (Ready s) i c k = joined k (prereqs-shape s (c .facts) i)
+  ports-shape : (m : ℕ) (p : Option L4Set) → SaysPorts p SmallSet → (c : Code) → Fits L m c → All (Fits L (m + 14)) (hoistPorts L p c)
+  ports-shape m none i c k = more (m + 14) (omega arith) k
+  ports-shape m (some s) i c k = joined k (prereqs-shape s (c .facts) i)
 
   pub hoist-shape : (r : GuardSet) (g : Facts) → SmallGuards r → All (Fits L 24) (orHoist L r g)
   unfolding orHoist
@@ -307,7 +306,7 @@ module _ (L : LinkType) where
       (known-shape 0 2 e (emitEthertype L) (either SmallKnown (isRaw L) tt (s .ethertype)) (ethertype-shape L) (code [] g) (omega arith))
       (λ a h. all-bind (Fits L 6) _ (hoistKnown L (r .«ip4_proto») (emitIp4L4 L) a) _ (known-shape 2 4 (r .«ip4_proto») (emitIp4L4 L) (s .ip4) ip4-shape a h)
       (λ b h. all-bind (Fits L 10) _ (hoistKnown L (r .«ip6_nh») (emitIp6L4 L) b) _ (known-shape 6 4 (r .«ip6_nh») (emitIp6L4 L) (s .ip6) ip6-shape b h)
-      (λ c h. ports-shape 10 (r .«port_prereqs») (s .ports) c h)))
+      (λ c h. ports-shape 10 (readySet (r .«port_prereqs»)) (s .ports) c h)))
 
   pub tree-shape : (t : Expr) (g : Facts) → Proper t → All (Fits L (weight t)) (emit L t g)
   unfolding emit requiredGuards

@@ -21,11 +21,9 @@ use Rattle.codegen.specs.declared.L4Set.{L4Set}
 use Rattle.codegen.specs.declared.L4Set.the-variants.{One, TcpOrUdp}
 use Rattle.codegen.specs.declared.Known.{Known}
 use Rattle.codegen.specs.declared.Known.the-variants.{Unknown, Is}
-use Rattle.codegen.specs.declared.Ports.{Ports}
-use Rattle.codegen.specs.declared.Ports.the-variants.{NotReady, Ready}
 use Rattle.codegen.specs.declared.Facts.{Facts}
 use Rattle.codegen.specs.declared.GuardSet.{GuardSet}
-use Rattle.codegen.specs.Facts.{contains, holds, readyFor, learnEthertype, learnIp4, learnIp6, withPorts, restored, meet, intersect}
+use Rattle.codegen.specs.Facts.{ready, readySet, contains, holds, readyFor, learnEthertype, learnIp4, learnIp6, withPorts, restored, meet, intersect}
 use Rattle.codegen.specs.Protocols.{rowOf, smallOf, known, l4setFor}
 use Rattle.codegen.specs.Guards.{requiredGuards}
 use Rattle.codegen.specs.Block.{Width, byte, half, word, ldAbs, ldhInd, ldxMsh, ldxImm, andK, Test, jeq, jgt, jge, jset, success, failure, skip, leave, jt, jf, Line, op, test, ja}
@@ -148,9 +146,9 @@ pinned Unknown at want header = record { block = l4Check at want ++ header; set 
 pinned (Is p) at want header = cond (contains want p) (record { block = header; set = One p }) (record { block = l4Check at want ++ header; set = want })
 
 -- one version: where ports are ready for another set only the protocol is narrowed
-abbrev pub version : Ports → Known → ℕ → L4Set → Block → Prologue
-version NotReady proto at want header = pinned proto at want header
-version (Ready have) proto at want header = record { block = l4Check at want; set = want }
+abbrev pub version : Option L4Set → Known → ℕ → L4Set → Block → Prologue
+version none proto at want header = pinned proto at want header
+version (some have) proto at want header = record { block = l4Check at want; set = want }
 
 -- an established set of one protocol is a fact of that protocol
 abbrev pub learnSet : (Facts → ℕ → Facts) → Facts → L4Set → Facts
@@ -158,12 +156,12 @@ learnSet learn g (One n) = learn g n
 learnSet learn g TcpOrUdp = g
 
 abbrev pub established : (Facts → ℕ → Facts) → Facts → Prologue → Code
-established learn g p = code (p .block) (withPorts (learnSet learn g (p .set)) (Ready (p .set)))
+established learn g p = code (p .block) (withPorts (learnSet learn g (p .set)) (ready (p .set)))
 
 -- neither version is known. "RawIp starts with ethertype 0x0800", so a link with no ethertype does not come here
 abbrev pub dual : Option ℕ → ℕ → L4Set → Facts → Code
 dual none n want g = code [] g
-dual (some off) n want g = code (dualPath off n want) (withPorts g (Ready want))
+dual (some off) n want g = code (dualPath off n want) (withPorts g (ready want))
 
 -- ---- conditions
 
@@ -206,8 +204,8 @@ module _ (L : LinkType) where
   unfoldable pub portPrereqs : L4Set → Facts → Code
   portPrereqs want g =
       cond (readyFor (g .«ports_ready») want) (code [] g)
-      (cond (holds (g .ethertype) 0x0800) (established learnIp4 g (version (g .«ports_ready») (g .«ip4_proto») (netOffset L + 9) want (header4 (netOffset L))))
-      (cond (holds (g .ethertype) 0x86dd) (established learnIp6 g (version (g .«ports_ready») (g .«ip6_nh») (netOffset L + 6) want header6))
+      (cond (holds (g .ethertype) 0x0800) (established learnIp4 g (version (readySet (g .«ports_ready»)) (g .«ip4_proto») (netOffset L + 9) want (header4 (netOffset L))))
+      (cond (holds (g .ethertype) 0x86dd) (established learnIp6 g (version (readySet (g .«ports_ready»)) (g .«ip6_nh») (netOffset L + 6) want header6))
       (dual (etherProtoOffset L) (netOffset L) want g)))
 
   -- a prologue and then a block
@@ -255,9 +253,9 @@ module _ (L : LinkType) where
     d ← emit v (c .facts)
     done (code (c .block ++ d .block) (d .facts))
 
-  abbrev pub hoistPorts : Ports → Code → Out Code
-  hoistPorts NotReady c = done c
-  hoistPorts (Ready want) c = let d = portPrereqs want (c .facts) in done (code (c .block ++ d .block) (d .facts))
+  abbrev pub hoistPorts : Option L4Set → Code → Out Code
+  hoistPorts none c = done c
+  hoistPorts (some want) c = let d = portPrereqs want (c .facts) in done (code (c .block ++ d .block) (d .facts))
 
   -- `emit_or_hoist`: "`or` first emits the tests that `required_guards` finds on both sides, skipping ethertype on RawIp"
   unfoldable pub orHoist : GuardSet → Facts → Out Code
@@ -265,7 +263,7 @@ module _ (L : LinkType) where
     a ← hoistKnown (cond (isRaw L) Unknown (r .ethertype)) emitEthertype (code [] g)
     b ← hoistKnown (r .«ip4_proto») emitIp4L4 a
     c ← hoistKnown (r .«ip6_nh») emitIp6L4 b
-    hoistPorts (r .«port_prereqs») c
+    hoistPorts (readySet (r .«port_prereqs»)) c
 
   -- `emit_expr`. "its right side starts from the facts after them, without ports ready if the left wrote X; after it `Facts::meet`
   -- holds. `not` restores its entry facts in the same way."

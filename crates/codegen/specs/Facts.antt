@@ -1,13 +1,14 @@
 -- "Facts: ethertype, IPv4 protocol, IPv6 next header, ports ready." codegen.rs `L4Set`, `Facts`, `GuardSet`.
 use Prim.Native.Nat.{ℕ}
 use mathlib.Core.Bool.{Bool, true, false, cond, _&&_, _||_}
+use mathlib.Core.Option.{Option, none, some}
 use lib.Dec.{eqb}
 use Rattle.codegen.specs.declared.L4Set.{L4Set}
 use Rattle.codegen.specs.declared.L4Set.the-variants.{One, TcpOrUdp}
 use Rattle.codegen.specs.declared.Known.{Known}
 use Rattle.codegen.specs.declared.Known.the-variants.{Unknown, Is}
 use Rattle.codegen.specs.declared.Ports.{Ports}
-use Rattle.codegen.specs.declared.Ports.the-variants.{NotReady, Ready}
+use Rattle.codegen.specs.declared.Ports.the-variants.{NotReady, ReadyOne, ReadyTcpOrUdp}
 use Rattle.codegen.specs.declared.Facts.{Facts}
 use Rattle.codegen.specs.declared.GuardSet.{GuardSet}
 
@@ -28,9 +29,20 @@ sameSet (One a) TcpOrUdp = false
 sameSet TcpOrUdp (One b) = false
 sameSet TcpOrUdp TcpOrUdp = true
 
+-- ready for a set
+abbrev pub ready : L4Set → Ports
+ready (One n) = ReadyOne n
+ready TcpOrUdp = ReadyTcpOrUdp
+
+-- the set, if there is one
+abbrev pub readySet : Ports → Option L4Set
+readySet NotReady = none
+readySet (ReadyOne n) = some (One n)
+readySet ReadyTcpOrUdp = some TcpOrUdp
+
 -- the smallest set with both, if there is one
 abbrev pub join : L4Set → L4Set → Ports
-join a b = cond (sameSet a b) (Ready a) (cond (subsetOf a TcpOrUdp && subsetOf b TcpOrUdp) (Ready TcpOrUdp) NotReady)
+join a b = cond (sameSet a b) (ready a) (cond (subsetOf a TcpOrUdp && subsetOf b TcpOrUdp) ReadyTcpOrUdp NotReady)
 
 -- ---- what may be known
 
@@ -54,24 +66,31 @@ abbrev pub or : Known → Known → Known
 or Unknown y = y
 or (Is a) y = Is a
 
+-- what is made of two sets, where there are two
+abbrev pub ofTwo : (L4Set → L4Set → Ports) → Option L4Set → Option L4Set → Ports
+ofTwo f none y = NotReady
+ofTwo f (some a) none = NotReady
+ofTwo f (some a) (some b) = f a b
+
+-- the set of both, where it is the same
 abbrev pub bothPorts : Ports → Ports → Ports
-bothPorts NotReady y = NotReady
-bothPorts (Ready a) NotReady = NotReady
-bothPorts (Ready a) (Ready b) = cond (sameSet a b) (Ready a) NotReady
+bothPorts x y = ofTwo (λ a b. cond (sameSet a b) (ready a) NotReady) (readySet x) (readySet y)
 
 abbrev pub orPorts : Ports → Ports → Ports
 orPorts NotReady y = y
-orPorts (Ready a) y = Ready a
+orPorts (ReadyOne n) y = ReadyOne n
+orPorts ReadyTcpOrUdp y = ReadyTcpOrUdp
 
 abbrev pub joinPorts : Ports → Ports → Ports
-joinPorts NotReady y = NotReady
-joinPorts (Ready a) NotReady = NotReady
-joinPorts (Ready a) (Ready b) = join a b
+joinPorts x y = ofTwo join (readySet x) (readySet y)
 
 -- an earlier prologue, at least as strict, has passed
+abbrev pub asStrict : Option L4Set → L4Set → Bool
+asStrict none want = false
+asStrict (some have) want = subsetOf have want
+
 abbrev pub readyFor : Ports → L4Set → Bool
-readyFor NotReady want = false
-readyFor (Ready have) want = subsetOf have want
+readyFor x want = asStrict (readySet x) want
 
 -- ---- `Facts`
 

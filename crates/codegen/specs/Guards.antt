@@ -9,9 +9,9 @@ use Rattle.codegen.specs.declared.L4Set.{L4Set}
 use Rattle.codegen.specs.declared.Known.{Known}
 use Rattle.codegen.specs.declared.Known.the-variants.{Unknown, Is}
 use Rattle.codegen.specs.declared.Ports.{Ports}
-use Rattle.codegen.specs.declared.Ports.the-variants.{NotReady, Ready}
+use Rattle.codegen.specs.declared.Ports.the-variants.{NotReady}
 use Rattle.codegen.specs.declared.GuardSet.{GuardSet}
-use Rattle.codegen.specs.Facts.{noGuards, union, intersect}
+use Rattle.codegen.specs.Facts.{ready, noGuards, union, intersect}
 use Rattle.codegen.specs.Protocols.{rowOf, smallOf, known, l4setFor}
 
 abbrev pub guards : ℕ → Known → Known → GuardSet
@@ -20,7 +20,7 @@ guards e p n = record { ethertype = Is e; «ip4_proto» = p; «ip6_nh» = n; «p
 -- the set of a prologue; none where `l4set_for` refuses
 abbrev pub setOf : Out L4Set → Ports
 setOf (refused r) = NotReady
-setOf (done s) = Ready s
+setOf (done s) = ready s
 
 abbrev pub portGuards : Option Proto → GuardSet
 portGuards p = record { ethertype = Unknown; «ip4_proto» = Unknown; «ip6_nh» = Unknown; «port_prereqs» = setOf (l4setFor p) }

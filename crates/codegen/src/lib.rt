@@ -12,10 +12,12 @@ pub enum Known {
     Is(u32),
 }
 
-// A port prologue that has passed, or that is required, for a set.
+// A port prologue that has passed, or that is required, for a set: codegen.rs `Option<L4Set>`, in one enum (an enum within an enum is
+// copied through memory byte by byte).
 pub enum Ports {
     NotReady,
-    Ready(L4Set),
+    ReadyOne(u32),
+    ReadyTcpOrUdp,
 }
 
 // What is proven on the path that code falls through.

@@ -9,17 +9,17 @@ use Rattle.ast.specs.Tree.{Ip, Protocol}
 use Rattle.ast.specs.Record.{protos, portProtoOf}
 use Rattle.codegen.specs.declared.L4Set.{L4Set}
 use Rattle.codegen.specs.declared.L4Set.the-variants.{TcpOrUdp}
-use Rattle.codegen.specs.declared.Ports.the-variants.{NotReady, Ready}
+use Rattle.codegen.specs.declared.Ports.the-variants.{NotReady, ReadyTcpOrUdp}
 use Rattle.codegen.specs.declared.Row.{Row}
 use Rattle.codegen.specs.declared.GuardSet.{GuardSet}
-use Rattle.codegen.specs.Facts.{sameSet, subsetOf, join}
+use Rattle.codegen.specs.Facts.{ready, sameSet, subsetOf, join}
 use Rattle.codegen.specs.Protocols.{protocols, rowOf, known, l4setFor}
 use Rattle.codegen.specs.Guards.{guards, primitiveGuards}
 use Rattle.facts.specs.declared.SetResult.the-variants.{Refused}
 use Rattle.facts.specs.Sets.{setResult}
 
 -- `join` from the answers of its three tests
-pub join-by : (a b : L4Set) {s p q : Bool} → s ≡ sameSet a b → p ≡ subsetOf a TcpOrUdp → q ≡ subsetOf b TcpOrUdp → cond s (Ready a) (cond (p && q) (Ready TcpOrUdp) NotReady) ≡ join a b
+pub join-by : (a b : L4Set) {s p q : Bool} → s ≡ sameSet a b → p ≡ subsetOf a TcpOrUdp → q ≡ subsetOf b TcpOrUdp → cond s (ready a) (cond (p && q) ReadyTcpOrUdp NotReady) ≡ join a b
 join-by a b h k l = rw (h, k, l)
 
 -- a protocol's row does not depend on the small number m, and its guards are the row's with m

@@ -66,18 +66,27 @@ fn same_set(a: L4Set, b: L4Set) -> bool
     }
 }
 
+pub fn ready(set: L4Set) -> Ports
+    ensures { λ r. ⌜ r ≡ F.ready set ⌝ }
+{
+    match set {
+        L4Set::One(n) => Ports::ReadyOne(n),
+        L4Set::TcpOrUdp => Ports::ReadyTcpOrUdp,
+    }
+}
+
 // The smallest set with both, if there is one.
 fn join(a: L4Set, b: L4Set) -> Ports
     ensures { λ r. ⌜ r ≡ F.join a b ⌝ }
 {
     if same_set(a, b) {
-        return Ports::Ready(a);
+        return ready(a);
     }
     if !subset_of(a, L4Set::TcpOrUdp) {
         return Ports::NotReady;
     }
     if subset_of(b, L4Set::TcpOrUdp) {
-        return Ports::Ready(L4Set::TcpOrUdp);
+        return Ports::ReadyTcpOrUdp;
     }
     Ports::NotReady
 }
@@ -148,14 +157,20 @@ fn both_ports(x: Ports, y: Ports) -> Ports
 {
     match x {
         Ports::NotReady => Ports::NotReady,
-        Ports::Ready(a) => match y {
+        Ports::ReadyOne(a) => match y {
             Ports::NotReady => Ports::NotReady,
-            Ports::Ready(b) => {
-                if same_set(a, b) {
-                    return Ports::Ready(a);
+            Ports::ReadyOne(b) => {
+                if a == b {
+                    return Ports::ReadyOne(a);
                 }
                 Ports::NotReady
             }
+            Ports::ReadyTcpOrUdp => Ports::NotReady,
+        },
+        Ports::ReadyTcpOrUdp => match y {
+            Ports::NotReady => Ports::NotReady,
+            Ports::ReadyOne(_) => Ports::NotReady,
+            Ports::ReadyTcpOrUdp => Ports::ReadyTcpOrUdp,
         },
     }
 }
@@ -165,7 +180,8 @@ fn or_ports(x: Ports, y: Ports) -> Ports
 {
     match x {
         Ports::NotReady => y,
-        Ports::Ready(a) => Ports::Ready(a),
+        Ports::ReadyOne(a) => Ports::ReadyOne(a),
+        Ports::ReadyTcpOrUdp => Ports::ReadyTcpOrUdp,
     }
 }
 
@@ -174,9 +190,15 @@ fn join_ports(x: Ports, y: Ports) -> Ports
 {
     match x {
         Ports::NotReady => Ports::NotReady,
-        Ports::Ready(a) => match y {
+        Ports::ReadyOne(a) => match y {
             Ports::NotReady => Ports::NotReady,
-            Ports::Ready(b) => join(a, b),
+            Ports::ReadyOne(b) => join(L4Set::One(a), L4Set::One(b)),
+            Ports::ReadyTcpOrUdp => join(L4Set::One(a), L4Set::TcpOrUdp),
+        },
+        Ports::ReadyTcpOrUdp => match y {
+            Ports::NotReady => Ports::NotReady,
+            Ports::ReadyOne(b) => join(L4Set::TcpOrUdp, L4Set::One(b)),
+            Ports::ReadyTcpOrUdp => Ports::ReadyTcpOrUdp,
         },
     }
 }
@@ -187,7 +209,8 @@ pub fn ready_for(ports: Ports, want: L4Set) -> bool
 {
     match ports {
         Ports::NotReady => false,
-        Ports::Ready(have) => subset_of(have, want),
+        Ports::ReadyOne(x) => contains(want, x),
+        Ports::ReadyTcpOrUdp => subset_of(L4Set::TcpOrUdp, want),
     }
 }
 

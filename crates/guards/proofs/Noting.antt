@@ -19,9 +19,10 @@ use Rattle.codegen.specs.declared.L4Set.the-variants.{One, TcpOrUdp}
 use Rattle.codegen.specs.declared.Known.{Known}
 use Rattle.codegen.specs.declared.Known.the-variants.{Unknown, Is}
 use Rattle.codegen.specs.declared.Ports.{Ports}
-use Rattle.codegen.specs.declared.Ports.the-variants.{NotReady, Ready}
+use Rattle.codegen.specs.declared.Ports.the-variants.{NotReady, ReadyOne, ReadyTcpOrUdp}
 use Rattle.codegen.specs.declared.GuardSet.{GuardSet}
 use Rattle.codegen.specs.Protocols.{l4setFor}
+use Rattle.codegen.specs.Facts.{ready}
 use Rattle.codegen.specs.Guards.{requiredGuards, setOf, portGuards}
 use Rattle.codegen.proofs.Shape.{SmallKnown, SmallPorts, SmallGuards, guards-small}
 use Rattle.facts.specs.declared.SetResult.the-variants as Set
@@ -40,14 +41,14 @@ known-same (Is v) (Is w) e = ap Is (omega arith)
 
 pub ports-same : (a b : Ports) → portsNumber a ≡ portsNumber b → a ≡ b
 ports-same NotReady NotReady e = refl
-ports-same NotReady (Ready TcpOrUdp) e = absurd (omega arith)
-ports-same NotReady (Ready (One n)) e = absurd (omega arith)
-ports-same (Ready TcpOrUdp) NotReady e = absurd (omega arith)
-ports-same (Ready TcpOrUdp) (Ready TcpOrUdp) e = refl
-ports-same (Ready TcpOrUdp) (Ready (One n)) e = absurd (omega arith)
-ports-same (Ready (One n)) NotReady e = absurd (omega arith)
-ports-same (Ready (One n)) (Ready TcpOrUdp) e = absurd (omega arith)
-ports-same (Ready (One n)) (Ready (One m)) e = ap (λ (x : ℕ). Ready (One x)) (omega arith)
+ports-same NotReady ReadyTcpOrUdp e = absurd (omega arith)
+ports-same NotReady (ReadyOne n) e = absurd (omega arith)
+ports-same ReadyTcpOrUdp NotReady e = absurd (omega arith)
+ports-same ReadyTcpOrUdp ReadyTcpOrUdp e = refl
+ports-same ReadyTcpOrUdp (ReadyOne n) e = absurd (omega arith)
+ports-same (ReadyOne n) NotReady e = absurd (omega arith)
+ports-same (ReadyOne n) ReadyTcpOrUdp e = absurd (omega arith)
+ports-same (ReadyOne n) (ReadyOne m) e = ap (λ (x : ℕ). ReadyOne x) (omega arith)
 
 guards-same : (g h : GuardSet) → g .ethertype ≡ h .ethertype → g .«ip4_proto» ≡ h .«ip4_proto» → g .«ip6_nh» ≡ h .«ip6_nh» → g .«port_prereqs» ≡ h .«port_prereqs» → g ≡ h
 guards-same g h a b c d =
@@ -72,8 +73,8 @@ known-small (Is v) h = omega arith
 
 ports-small : (p : Ports) → SmallPorts p → portsNumber p ≤ 4294967297
 ports-small NotReady h = omega arith
-ports-small (Ready TcpOrUdp) h = omega arith
-ports-small (Ready (One n)) h = omega arith
+ports-small ReadyTcpOrUdp h = omega arith
+ports-small (ReadyOne n) h = omega arith
 
 pub readable : {M : List ℕ} {i e : ℕ} (t : Expr) → Note M i (requiredGuards t) e → Proper t → i < 128 → 5 * i + 5 ≤ length M → Readable M i
 readable t n p few long =
@@ -209,7 +210,7 @@ pub set-none : (o : Out L4Set) {r : Refusal} → Set.Refused r ≡ setResult o �
 set-none (refused q) e = refl
 set-none (done s) e = never cc
 
-pub set-some : (o : Out L4Set) {s : L4Set} → Set.Set s ≡ setResult o → Ready s ≡ setOf o
+pub set-some : (o : Out L4Set) {s : L4Set} → Set.Set s ≡ setResult o → ready s ≡ setOf o
 set-some (refused q) e = never cc
 set-some (done t) e = cc
 

@@ -7,7 +7,7 @@ use Rattle.codegen.specs.declared.L4Set.the-variants.{One, TcpOrUdp}
 use Rattle.codegen.specs.declared.Known.{Known}
 use Rattle.codegen.specs.declared.Known.the-variants.{Unknown, Is}
 use Rattle.codegen.specs.declared.Ports.{Ports}
-use Rattle.codegen.specs.declared.Ports.the-variants.{NotReady, Ready}
+use Rattle.codegen.specs.declared.Ports.the-variants.{NotReady, ReadyOne, ReadyTcpOrUdp}
 use Rattle.codegen.specs.declared.GuardSet.{GuardSet}
 use Rattle.codegen.specs.Guards.{requiredGuards}
 use Rattle.reader.specs.Reader.{treeOf, endOf}
@@ -20,8 +20,8 @@ knownNumber (Is v) = v + 1
 
 abbrev pub portsNumber : Ports → ℕ
 portsNumber NotReady = 0
-portsNumber (Ready TcpOrUdp) = 1
-portsNumber (Ready (One n)) = n + 2
+portsNumber ReadyTcpOrUdp = 1
+portsNumber (ReadyOne n) = n + 2
 
 -- the note of record i says g and that the tree ends at e
 pub record Note (M : List ℕ) (i : ℕ) (g : GuardSet) (e : ℕ) : Type 0 where

@@ -1,7 +1,6 @@
 // The guards that a tree requires: codegen.rs `required_guards`, `primitive_guards`, over the records of a tree file.
 use codegen::GuardSet;
 use codegen::Known;
-use codegen::L4Set;
 use codegen::Ports;
 use facts::SetResult;
 ghost use mathlib.Core.Path.{_≡_};
@@ -47,10 +46,8 @@ fn ports_number(ports: Ports) -> u64
 {
     match ports {
         Ports::NotReady => 0,
-        Ports::Ready(set) => match set {
-            L4Set::TcpOrUdp => 1,
-            L4Set::One(n) => (n as u64) + 2,
-        },
+        Ports::ReadyTcpOrUdp => 1,
+        Ports::ReadyOne(n) => (n as u64) + 2,
     }
 }
 
@@ -62,9 +59,9 @@ fn ports_of(n: u64) -> Ports
         return Ports::NotReady;
     }
     if n == 1 {
-        return Ports::Ready(L4Set::TcpOrUdp);
+        return Ports::ReadyTcpOrUdp;
     }
-    Ports::Ready(L4Set::One((n - 2) as u32))
+    Ports::ReadyOne((n - 2) as u32)
 }
 
 // Notes what record i requires and where it ends.
@@ -132,11 +129,12 @@ fn port_guards(protocol: u8) -> GuardSet
     match facts::l4set_for(protocol) {
         SetResult::Refused(_) => facts::no_guards(),
         SetResult::Set(set) => {
+            let ports = facts::ready(set);
             GuardSet {
                 ethertype: Known::Unknown,
                 ip4_proto: Known::Unknown,
                 ip6_nh: Known::Unknown,
-                port_prereqs: Ports::Ready(set),
+                port_prereqs: ports,
             }
         }
     }

@@ -14,11 +14,9 @@ use Rattle.codegen.specs.declared.L4Set.{L4Set}
 use Rattle.codegen.specs.declared.L4Set.the-variants.{One, TcpOrUdp}
 use Rattle.codegen.specs.declared.Known.{Known}
 use Rattle.codegen.specs.declared.Known.the-variants.{Unknown, Is}
-use Rattle.codegen.specs.declared.Ports.{Ports}
-use Rattle.codegen.specs.declared.Ports.the-variants.{NotReady, Ready}
 use Rattle.codegen.specs.declared.Facts.{Facts}
 use Rattle.codegen.specs.declared.GuardSet.{GuardSet}
-use Rattle.codegen.specs.Facts.{contains, holds, readyFor, learnIp4, learnIp6, withPorts}
+use Rattle.codegen.specs.Facts.{ready, readySet, contains, holds, readyFor, learnIp4, learnIp6, withPorts}
 use Rattle.codegen.specs.Block.{half, ldAbs, jeq, skip, jt, op, test, ja, Block}
 use Rattle.codegen.specs.Emit.{netOffset, etherProtoOffset, Code, code, need, l4SetCheck, l4Check, header4, header6, fork, dualPath, Prologue, pinned, version, learnSet, established, dual, ethertypeAt, emitEthertype, emitL4, emitIp4L4, emitIp6L4, portPrereqs, hoistKnown, hoistPorts}
 use Rattle.emit.specs.declared.Patches.{Patches}
@@ -62,11 +60,11 @@ header6-short = omega arith
 pub path4-short : (n : ℕ) (want : L4Set) → length (l4Check (n + 9) want ++ header4 n) ≤ 6
 path4-short n want = path-short (n + 9) want (header4 n) (header4-short n)
 
-version-short : (r : Ports) (q : Known) (at : ℕ) (want : L4Set) (header : Block) → length header ≤ 3 → length (version r q at want header .block) ≤ 14
-version-short NotReady Unknown at want header h = omega (arith, path-short at want header h)
-version-short NotReady (Is p) at want header h =
+version-short : (r : Option L4Set) (q : Known) (at : ℕ) (want : L4Set) (header : Block) → length header ≤ 3 → length (version r q at want header .block) ≤ 14
+version-short none Unknown at want header h = omega (arith, path-short at want header h)
+version-short none (Is p) at want header h =
     either (λ (p : Prologue). length (p .block) ≤ 14) (contains want p) (omega arith) (omega (arith, path-short at want header h))
-version-short (Ready r) q at want header h = omega (arith, l4-short at want)
+version-short (some r) q at want header h = omega (arith, l4-short at want)
 
 dual-short : (off : Option ℕ) (n : ℕ) (want : L4Set) (g : Facts) → length (dual off n want g .block) ≤ 14
 unfolding dualPath fork l4Check l4SetCheck header4 header6
@@ -79,8 +77,8 @@ module _ (L : LinkType) where
   unfolding portPrereqs
   prereqs-short want g =
       either (Short 14) (readyFor (g .«ports_ready») want) (omega arith)
-      (either (Short 14) (holds (g .ethertype) 0x0800) (version-short (g .«ports_ready») (g .«ip4_proto») (netOffset L + 9) want (header4 (netOffset L)) (header4-short (netOffset L)))
-      (either (Short 14) (holds (g .ethertype) 0x86dd) (version-short (g .«ports_ready») (g .«ip6_nh») (netOffset L + 6) want header6 header6-short)
+      (either (Short 14) (holds (g .ethertype) 0x0800) (version-short (readySet (g .«ports_ready»)) (g .«ip4_proto») (netOffset L + 9) want (header4 (netOffset L)) (header4-short (netOffset L)))
+      (either (Short 14) (holds (g .ethertype) 0x86dd) (version-short (readySet (g .«ports_ready»)) (g .«ip6_nh») (netOffset L + 6) want header6 header6-short)
       (dual-short (etherProtoOffset L) (netOffset L) want g)))
 
 at-short : (off : Option ℕ) (et : ℕ) (g : Facts) → All (Short 2) (ethertypeAt off et g)
@@ -131,7 +129,7 @@ unmoved I N s g = record { made = λ Y. record { grew = none-added I Y N s; fact
 
 -- the facts after a prologue that established a set
 abbrev Learns : (Facts → ℕ → Facts) → Facts → L4Set → Facts → Type 0
-Learns learn g set h = h ≡ withPorts (learnSet learn g set) (Ready set)
+Learns learn g set h = h ≡ withPorts (learnSet learn g set) (ready set)
 
 -- one version's prologue, by what is known
 module _ (learn : Facts → ℕ → Facts) (g : Facts) (k : Known) (at : ℕ) (want : L4Set) (header : Block) {I N I′ N′ : List ℕ} {s : Patches} where
@@ -148,11 +146,15 @@ module _ (learn : Facts → ℕ → Facts) (g : Facts) (k : Known) (at : ℕ) (w
         → MadeFailure (established learn g (pinned k at want header)) I N s I′ N′ (record { patches = t; facts = h })
     pinned-unknown e b f = rw e (made-failure b f)
 
-    pub narrowed : (r : Ports) {have : L4Set} → r ≡ Ready have → PutFailure (l4Check at want) I N s I′ N′ t → Learns learn g want h
-        → MadeFailure (established learn g (version r k at want header)) I N s I′ N′ (record { patches = t; facts = h })
-    narrowed r e b f = rw e (made-failure b f)
+    pub narrowed-to : PutFailure (l4Check at want) I N s I′ N′ t → Learns learn g want h
+        → MadeFailure (established learn g (record { block = l4Check at want; set = want })) I N s I′ N′ (record { patches = t; facts = h })
+    narrowed-to b f = made-failure b f
 
-  pub fresh : (r : Ports) {e : Emitted} → r ≡ NotReady → MadeFailure (established learn g (pinned k at want header)) I N s I′ N′ e
+  pub narrowed : (r : Option L4Set) {have : L4Set} {e : Emitted} → r ≡ some have → MadeFailure (established learn g (record { block = l4Check at want; set = want })) I N s I′ N′ e
+      → MadeFailure (established learn g (version r k at want header)) I N s I′ N′ e
+  narrowed r q h = rw q h
+
+  pub fresh : (r : Option L4Set) {e : Emitted} → r ≡ none → MadeFailure (established learn g (pinned k at want header)) I N s I′ N′ e
       → MadeFailure (established learn g (version r k at want header)) I N s I′ N′ e
   fresh r q h = rw q h
 
@@ -162,7 +164,7 @@ module _ (n : ℕ) (want : L4Set) (g : Facts) where
   dual-absent none I N s e = unmoved I N s g
   dual-absent (some off) I N s e = let z : _≡_ {A = ℕ} 0 1 = cc in absurd (omega arith)
 
-  pub dual-at : (o : Option ℕ) (off : ℕ) {I N I′ N′ : List ℕ} {s t : Patches} {h : Facts} → At off ≡ offsetOf o → PutFailure (dualPath off n want) I N s I′ N′ t → h ≡ withPorts g (Ready want)
+  pub dual-at : (o : Option ℕ) (off : ℕ) {I N I′ N′ : List ℕ} {s t : Patches} {h : Facts} → At off ≡ offsetOf o → PutFailure (dualPath off n want) I N s I′ N′ t → h ≡ withPorts g (ready want)
       → MadeFailure (dual o n want g) I N s I′ N′ (record { patches = t; facts = h })
   dual-at none off e b f = let z : _≡_ {A = ℕ} 0 1 = cc in absurd (omega arith)
   dual-at (some at) off {I} {N} {I′} {N′} {s} {t} e b f =
@@ -176,12 +178,12 @@ module _ (L : LinkType) (want : L4Set) (g : Facts) where
 
   module _ (e : readyFor (g .«ports_ready») want ≡ false) where
     pub prereqs-ip4 : holds (g .ethertype) 0x0800 ≡ true
-        → portPrereqs L want g ≡ established learnIp4 g (version (g .«ports_ready») (g .«ip4_proto») (netOffset L + 9) want (header4 (netOffset L)))
+        → portPrereqs L want g ≡ established learnIp4 g (version (readySet (g .«ports_ready»)) (g .«ip4_proto») (netOffset L + 9) want (header4 (netOffset L)))
     unfolding portPrereqs
     prereqs-ip4 h = rw (e, h)
 
     pub prereqs-ip6 : holds (g .ethertype) 0x0800 ≡ false → holds (g .ethertype) 0x86dd ≡ true
-        → portPrereqs L want g ≡ established learnIp6 g (version (g .«ports_ready») (g .«ip6_nh») (netOffset L + 6) want header6)
+        → portPrereqs L want g ≡ established learnIp6 g (version (readySet (g .«ports_ready»)) (g .«ip6_nh») (netOffset L + 6) want header6)
     unfolding portPrereqs
     prereqs-ip6 h j = rw (e, h, j)
 
@@ -211,11 +213,11 @@ known-on L (Is v) e b g = ap (after b) (sym (after-none (e v g)))
 known-follows : (L : LinkType) (k : Known) (e : ℕ → Facts → Out Code) → Follows (hoistKnown L k e)
 known-follows L k e = record { on = known-on L k e }
 
-ports-on : (L : LinkType) (p : Ports) (b : Block) (g : Facts) → hoistPorts L p (code b g) ≡ after b (hoistPorts L p (code [] g))
-ports-on L NotReady b g = rw append-nil
-ports-on L (Ready want) b g = refl
+ports-on : (L : LinkType) (p : Option L4Set) (b : Block) (g : Facts) → hoistPorts L p (code b g) ≡ after b (hoistPorts L p (code [] g))
+ports-on L none b g = rw append-nil
+ports-on L (some want) b g = refl
 
-pub ports-follow : (L : LinkType) (p : Ports) → Follows (hoistPorts L p)
+pub ports-follow : (L : LinkType) (p : Option L4Set) → Follows (hoistPorts L p)
 ports-follow L p = record { on = ports-on L p }
 
 then-on : (k : Code → Out Code) → Follows k → (b : Block) (o : Out Code) → after b o >>= k ≡ after b (o >>= k)
@@ -236,7 +238,7 @@ follow {o} f h w q = rw (← follows-bind f h o) (bind-reply w (λ g. f (code []
 
 -- the guards from the IPv6 next header on, and from the IPv4 protocol on
 pub ip6-follows : (L : LinkType) (r : GuardSet) → Follows (hoistIp6 L r)
-ip6-follows L r = then-follows (known-follows L (r .«ip6_nh») (emitIp6L4 L)) (ports-follow L (r .«port_prereqs»))
+ip6-follows L r = then-follows (known-follows L (r .«ip6_nh») (emitIp6L4 L)) (ports-follow L (readySet (r .«port_prereqs»)))
 
 pub ip4-follows : (L : LinkType) (r : GuardSet) → Follows (hoistIp4 L r)
 ip4-follows L r = then-follows (known-follows L (r .«ip4_proto») (emitIp4L4 L)) (ip6-follows L r)
@@ -246,13 +248,13 @@ module _ (L : LinkType) (g : Facts) {I N : List ℕ} {s : Patches} where
   pub hoist-unknown : (k : Known) (e : ℕ → Facts → Out Code) → k ≡ Unknown → ReplyFailure (hoistKnown L k e (code [] g)) I N s I N (Done (record { patches = s; facts = g }))
   hoist-unknown k e q = rw q (record { reply = λ Y. unchanged I Y N s g })
 
-  pub hoist-not-ready : (p : Ports) → p ≡ NotReady → ReplyFailure (hoistPorts L p (code [] g)) I N s I N (Done (record { patches = s; facts = g }))
+  pub hoist-not-ready : (p : Option L4Set) → p ≡ none → ReplyFailure (hoistPorts L p (code [] g)) I N s I N (Done (record { patches = s; facts = g }))
   hoist-not-ready p q = rw q (record { reply = λ Y. unchanged I Y N s g })
 
   module _ {I′ N′ : List ℕ} where
     pub hoist-is : (k : Known) (e : ℕ → Facts → Out Code) {v : ℕ} {r : Emission} → k ≡ Is v → ReplyFailure (e v g) I N s I′ N′ r → ReplyFailure (hoistKnown L k e (code [] g)) I N s I′ N′ r
     hoist-is k e {v} q h = rw (q, after-none (e v g)) h
 
-    pub hoist-ready : (p : Ports) {want : L4Set} {e : Emitted} → p ≡ Ready want → MadeFailure (portPrereqs L want g) I N s I′ N′ e
+    pub hoist-ready : (p : Option L4Set) {want : L4Set} {e : Emitted} → p ≡ some want → MadeFailure (portPrereqs L want g) I N s I′ N′ e
         → ReplyFailure (hoistPorts L p (code [] g)) I N s I′ N′ (Done e)
     hoist-ready p q h = rw q (record { reply = λ Y. record { is = h .made Y } })

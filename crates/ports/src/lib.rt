@@ -36,7 +36,6 @@ ghost use mathlib.Core.Bool.{cond};
 ghost use Prim.Native.Nat.{_+_, _≤_, _<_};
 ghost use lib.ListN.{length};
 ghost use Rattle.codegen.specs.declared.Known.the-variants.{Unknown};
-ghost use Rattle.codegen.specs.declared.Ports.the-variants.{Ready};
 ghost use Rattle.codegen.specs.Facts as F;
 ghost use Rattle.codegen.specs.Block.{half, ldAbs, jeq, jt, skip, op, test};
 ghost use Rattle.codegen.specs.Emit as E;
@@ -157,14 +156,14 @@ fn dual_path(
 
 // An established set of one protocol is a fact of that protocol.
 fn established(facts: Facts, version: Version, set: L4Set) -> Facts
-    ensures { λ r. ⌜ r ≡ F.withPorts (E.learnSet (L.learnProto version) facts set) (Ready set) ⌝ }
+    ensures { λ r. ⌜ r ≡ F.withPorts (E.learnSet (L.learnProto version) facts set) (F.ready set) ⌝ }
 {
     match set {
         L4Set::One(n) => {
             let g = learn_proto(version, facts, n);
-            facts::with_ports(g, Ports::Ready(set))
+            facts::with_ports(g, facts::ready(set))
         }
-        L4Set::TcpOrUdp => facts::with_ports(facts, Ports::Ready(set)),
+        L4Set::TcpOrUdp => facts::with_ports(facts, facts::ready(set)),
     }
 }
 
@@ -210,6 +209,27 @@ fn pinned(
     }
 }
 
+// One version, ready for another set: only the protocol is tested.
+fn narrowed(
+    insns: &mut [u64],
+    failure: &mut [u16],
+    p: Patches,
+    facts: Facts,
+    version: Version,
+    n: u32,
+    want: L4Set,
+) -> Emitted
+    requires { ⌜ Space 6 (now insns) (now failure) p (p .failure) × (n ≤ 16) ⌝ }
+    ensures { λ r. ⌜ MadeFailure (E.established (L.learnProto version) facts (record { block = E.l4Check (n + L.protoPlace version) want; set = want })) (now (insns .entry)) (now (failure .entry)) p (now (insns .exit)) (now (failure .exit)) r ⌝ }
+{
+    let q = l4_check(insns, failure, p, n + proto_place(version), want);
+    let g = established(facts, version, want);
+    Emitted {
+        patches: q,
+        facts: g,
+    }
+}
+
 // One version: where ports are ready for another set only the protocol is narrowed.
 fn one_version(
     insns: &mut [u64],
@@ -221,19 +241,13 @@ fn one_version(
     want: L4Set,
 ) -> Emitted
     requires { ⌜ Space 6 (now insns) (now failure) p (p .failure) × (n ≤ 16) ⌝ }
-    ensures { λ r. ⌜ MadeFailure (E.established (L.learnProto version) facts (E.version (facts .«ports_ready») (L.protoFact version facts) (n + L.protoPlace version) want (L.header version n))) (now (insns .entry)) (now (failure .entry)) p (now (insns .exit)) (now (failure .exit)) r ⌝ }
+    ensures { λ r. ⌜ MadeFailure (E.established (L.learnProto version) facts (E.version (F.readySet (facts .«ports_ready»)) (L.protoFact version facts) (n + L.protoPlace version) want (L.header version n))) (now (insns .entry)) (now (failure .entry)) p (now (insns .exit)) (now (failure .exit)) r ⌝ }
 {
     let ports = facts.ports_ready;
     match ports {
         Ports::NotReady => pinned(insns, failure, p, facts, version, n, want),
-        Ports::Ready(_) => {
-            let q = l4_check(insns, failure, p, n + proto_place(version), want);
-            let g = established(facts, version, want);
-            Emitted {
-                patches: q,
-                facts: g,
-            }
-        }
+        Ports::ReadyOne(_) => narrowed(insns, failure, p, facts, version, n, want),
+        Ports::ReadyTcpOrUdp => narrowed(insns, failure, p, facts, version, n, want),
     }
 }
 
@@ -258,7 +272,7 @@ fn dual(
         Offset::At(off) => {
             let n = net_offset(link);
             let q = dual_path(insns, failure, p, off, n, want);
-            let g = facts::with_ports(facts, Ports::Ready(want));
+            let g = facts::with_ports(facts, facts::ready(want));
             Emitted {
                 patches: q,
                 facts: g,
@@ -448,20 +462,28 @@ fn hoist_ports(
     ports: Ports,
 ) -> Emission
     requires { ⌜ Space 14 (now insns) (now failure) p (p .failure) ⌝ }
-    ensures { λ r. ⌜ ReplyFailure (E.hoistPorts link ports (E.code [] facts)) (now (insns .entry)) (now (failure .entry)) p (now (insns .exit)) (now (failure .exit)) r ⌝ }
+    ensures { λ r. ⌜ ReplyFailure (E.hoistPorts link (F.readySet ports) (E.code [] facts)) (now (insns .entry)) (now (failure .entry)) p (now (insns .exit)) (now (failure .exit)) r ⌝ }
 {
     match ports {
         Ports::NotReady => Emission::Done(Emitted {
             patches: p,
             facts: facts,
         }),
-        Ports::Ready(want) => Emission::Done(emit_port_prereqs_set(
+        Ports::ReadyOne(n) => Emission::Done(emit_port_prereqs_set(
             link,
             insns,
             failure,
             p,
             facts,
-            want,
+            L4Set::One(n),
+        )),
+        Ports::ReadyTcpOrUdp => Emission::Done(emit_port_prereqs_set(
+            link,
+            insns,
+            failure,
+            p,
+            facts,
+            L4Set::TcpOrUdp,
         )),
     }
 }

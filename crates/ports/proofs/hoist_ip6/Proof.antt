@@ -3,6 +3,7 @@ use native.Mathlib.Omega.{arith}
 use mathlib.Core.List.{[]}
 use Rattle.conditions.specs.Loads.{emitVersion}
 use Rattle.conditions.specs.declared.Version.the-variants.{V6}
+use Rattle.codegen.specs.Facts.{readySet}
 use Rattle.codegen.specs.Emit.{hoistPorts}
 use Rattle.emit.proofs.Outcome.{bind-refused, reply-done}
 use Rattle.ports.proofs.Hoisting.{follow, ports-follow, went-sized, version-known-short}
@@ -16,7 +17,7 @@ returns : tie.Need-returns
 returns c = record { reply = λ Y. bind-refused (c .before .before .before .before .before .before .before .hoist-l4 .ensures .reply Y) (c .before .r .given .1) _ }
 
 returns-2 : tie.Need-returns-2
-returns-2 c = let a = c .before .before .before .before .before .before .before .before .before .before .before .before .before .before .before .before .before .before .before .before .before .args in record { reply = λ Y. follow (hoistPorts (a .link) (a .guards .«port_prereqs»)) (ports-follow (a .link) (a .guards .«port_prereqs»)) (reply-done (c .before .before .before .before .before .before .before .before .before .before .before .before .before .before .before .before .hoist-l4 .ensures .reply Y) (c .before .before .before .before .before .before .before .before .before .before .e .given .1)) (c .before .before .before .before .hoist-ports .ensures .reply Y) }
+returns-2 c = let a = c .before .before .before .before .before .before .before .before .before .before .before .before .before .before .before .before .before .before .before .before .before .args in record { reply = λ Y. follow (hoistPorts (a .link) (readySet (a .guards .«port_prereqs»))) (ports-follow (a .link) (readySet (a .guards .«port_prereqs»))) (reply-done (c .before .before .before .before .before .before .before .before .before .before .before .before .before .before .before .before .hoist-l4 .ensures .reply Y) (c .before .before .before .before .before .before .before .before .before .before .e .given .1)) (c .before .before .before .before .hoist-ports .ensures .reply Y) }
 
 pub hoist-ip6-spec : {M : Type 1} → statement M
 hoist-ip6-spec =
