@@ -123,7 +123,8 @@ def checksum(data):
 def ipv4(number, source, destination, data, options=b"", offset=0):
     """The offset is in units of eight bytes."""
     length = 20 + len(options)
-    front = bytes([0x40 + length // 4, 0]) + half(length + len(data)) + half(1) + half(offset) + bytes([64, number])
+    front = bytes([0x40 + length // 4, 0]) + half(length + len(data))
+    front += half(1) + half(offset) + bytes([64, number])
     back = packed(source) + packed(destination) + options
     return 0x0800, padded(front + checksum(front + back) + back + data)
 
@@ -148,7 +149,8 @@ def arp(source, destination):
 
 
 def framed(link, packet, to=DRIVE):
-    """A packet with the header of its link. LinuxSll has the sender alone: kind of packet, ARPHRD, length, address."""
+    """A packet with the header of its link. LinuxSll has the sender alone: kind of
+    packet, kind of device, length of the address, the address."""
     ethertype, data = packet
     if link == ETHERNET:
         return mac(to) + mac(STATION) + half(ethertype) + data
@@ -202,7 +204,9 @@ def frames(link):
 
 EVERY = (ETHERNET, SLL, RAWIP)
 TYPED = (ETHERNET, SLL)
-TO_DRIVE = "tcp80 tcp80_options tcp80_fragment tcp6_80 udp53 udp6_53 drive drive_service drive6 modbus sctp icmp cut_header cut_port"
+TO_DRIVE = "tcp80 tcp80_options tcp80_fragment tcp6_80 udp53 udp6_53 drive drive_service drive6 modbus sctp icmp"
+TO_DRIVE += " cut_header cut_port"
+MULTICASTS = any_of(ETHER_MULTICAST, IP_MULTICAST, IP6_MULTICAST)
 WEB_TREE = all_of(protocol(TCP), port(80, DESTINATION, TCP))
 DRIVES = any_of(
     all_of(
@@ -236,7 +240,7 @@ TREES = {
     "ports": (EVERY, ports(5000, 5009, DESTINATION, UDP), "drive drive_service drive6"),
     "drives": (TYPED, DRIVES, "drive drive6 modbus arp"),
     "station": ((ETHERNET,), ether_host(DRIVE, DESTINATION), TO_DRIVE),
-    "multicast": ((ETHERNET,), any_of(ETHER_MULTICAST, IP_MULTICAST, IP6_MULTICAST), "icmp6 igmp mdns broadcast arp lldp"),
+    "multicast": ((ETHERNET,), MULTICASTS, "icmp6 igmp mdns broadcast arp lldp"),
     "ip_multicast": (EVERY, IP_MULTICAST, "igmp mdns"),
     "broadcast": (EVERY, IP_BROADCAST, "broadcast"),
     "arp_lldp": (TYPED, any_of(protocol(ARP), ether_protocol(0x88CC)), "arp lldp"),
@@ -249,7 +253,8 @@ TREES = {
 
 
 def true_of(tree, link):
-    """The frames of a link of which a tree is true. RawIp takes every frame for IPv4, and these trees are true of no IPv6 one there."""
+    """The frames of a link of which a tree is true. RawIp takes every frame for
+    IPv4, and these trees are true of no IPv6 one there."""
     names = TREES[tree][2].split()
     if link != RAWIP:
         return names

@@ -92,7 +92,8 @@ def try_files(tally):
         open(odd, "wb").write(make.frames(make.ETHERNET)["tcp80"])
         words = [good, f"{room}/none", room, f"{good}/x", "", long, "x" * 300, "x" * 5000, longest, odd]
         lines, messages, status = run(web, *words)
-        tally.expect("lines", lines, [f"{good}: {accepted}", f"{longest}: dropped, steps 3, direct reading false", f"{odd}: {accepted}"])
+        dropped = f"{longest}: dropped, steps 3, direct reading false"
+        tally.expect("lines", lines, [f"{good}: {accepted}", dropped, f"{odd}: {accepted}"])
         reasons = [
             f"{room}/none: cannot be read, no such file",
             f"{room}: cannot be read, it is a directory",
@@ -106,7 +107,8 @@ def try_files(tally):
         tally.expect("status", status, 1)
         tally.expect("no tree", run(f"{room}/none", good), ([], reasons[:1], 1))
         tally.expect("a folder as tree", run(room, good), ([], reasons[1:2], 1))
-    tally.expect("a long tree name", run("x" * 5000, good), ([], ["argument 1: cannot be read, its name is too long"], 1))
+    long_name = ["argument 1: cannot be read, its name is too long"]
+    tally.expect("a long tree name", run("x" * 5000, good), ([], long_name, 1))
 
 
 def try_usage(tally):
