@@ -327,12 +327,12 @@ def case_bytes(case):
 
 
 def report(groups):
-    """What the program has to print. An accepted file is built three times, and
-    twice more with too few bytes, a refused one three times."""
+    """What the program has to print. Each file is built five times, an accepted
+    one twice with too few bytes."""
     lines = [f"{name}: {len(cases)} files" for name, cases in groups.items()]
-    cases = [case for group in groups.values() for case in group]
-    builds = collections.Counter(3 * [case.refusal for case in cases])
-    builds[9] = 2 * builds[0] // 3
+    builds = collections.Counter(5 * [case.refusal for cases in groups.values() for case in cases])
+    builds[9] = builds[0] // 5 * 2
+    builds[0] -= builds[9]
     lines += [f"counts: {builds[0]}"] + [f"refused {number}: {builds[number]}" for number in range(1, 10)]
     return "\n".join(lines) + f"\n{builds.total()} compared, 0 differences\n"
 

@@ -21,16 +21,11 @@ const MOST: usize = 32768;
 // How many builds had a count, then how many had each refusal of 1 to 9, then how many differ.
 type Tally = [u64; 11];
 
+// The Rust's answer, and the tree file's length.
 struct Case {
     refusal: u32,
     count: u32,
     file: usize,
-}
-
-// A build: the tree file is the case's, so many bytes are lent, and this is to be answered.
-struct Build {
-    lent: usize,
-    answer: u32,
 }
 
 // ---- the output
@@ -53,20 +48,22 @@ fn print_answer(answer: u32) {
     number((answer / 65536) as u64);
 }
 
-// The answer here, the stored one, and the first wrong byte, which is past the buffer's end where the answer alone is wrong.
-fn print_difference(group: &[u8], index: usize, b: Build, here: u32, wrong: usize) {
-    text(group);
-    text(b" ");
-    number(index as u64);
-    text(b", ");
-    number(b.lent as u64);
+// The answer here, the wanted one, and the first wrong byte, which is past the buffer's end where the answer alone is wrong.
+fn print_difference(lent: usize, here: u32, answer: u32, wrong: usize) {
+    number(lent as u64);
     text(b" bytes lent: ");
     print_answer(here);
-    text(b", stored ");
-    print_answer(b.answer);
+    text(b", wanted ");
+    print_answer(answer);
     text(b", first wrong byte ");
     number(wrong as u64);
     text(b"\n");
+}
+
+fn print_place(group: &[u8], index: usize) {
+    text(group);
+    text(b" ");
+    number(index as u64);
 }
 
 fn print_refusal(refusal: usize, builds: u64) {
@@ -137,133 +134,96 @@ fn build_into(file: &[u8], buffer: &mut [u8], lent: usize) -> u32 {
     pft::pft_build(file, &mut buffer[0..lent])
 }
 
-fn try_build(group: &[u8], index: usize, file: &[u8], program: &[u8], b: Build, tally: &mut Tally) {
-    let mut buffer = [FILLED; 32784];
-    let here = build_into(file, &mut buffer, b.lent);
-    let wrong = first_wrong(&buffer, program, b.lent);
-    add(tally, place_of(b.answer));
-    if here == b.answer && wrong == buffer.len() {
-        return;
+// What a build into so many bytes has to answer.
+fn answer_of(c: Case, lent: usize) -> u32
+    requires { ⌜ (c .refusal < 65536) × (c .count < 65536) ⌝ }
+{
+    if c.refusal != 0 {
+        return c.refusal * 65536;
     }
-    add(tally, 10);
-    print_difference(group, index, b, here, wrong);
+    if lent < 8 * c.count as usize {
+        return 9 * 65536;
+    }
+    c.count
+}
+
+// The bytes of the program that a build with this answer has to leave.
+fn left_of(program: &[u8], answer: u32) -> &[u8] {
+    if answer < 65536 {
+        return program;
+    }
+    first(program, 0)
+}
+
+// Answers whether the build into so many bytes is as it has to be; else the difference is printed.
+fn is_right(file: &[u8], program: &[u8], lent: usize, answer: u32) -> bool {
+    let mut buffer = [FILLED; 32784];
+    let here = build_into(file, &mut buffer, lent);
+    let wrong = first_wrong(&buffer, left_of(program, answer), lent);
+    if here == answer && wrong == buffer.len() {
+        return true;
+    }
+    print_difference(lent, here, answer, wrong);
+    false
 }
 
 // ---- a case
 
-// Exactly enough, all, more, one byte too few, none.
-fn try_accepted(
-    group: &[u8],
-    index: usize,
-    file: &[u8],
-    program: &[u8],
-    count: u32,
-    tally: &mut Tally,
-)
-    requires { ⌜ count < 65536 ⌝ }
+// How many bytes are lent, by turns: exactly enough, more, one too few, none, all.
+fn lent_of(turn: u32, exact: usize, index: usize) -> usize
+    requires { ⌜ exact < 1048576 ⌝ }
 {
-    let exact = program.len();
-    let short = 9 * 65536;
-    try_build(
-        group,
-        index,
-        file,
-        program,
-        Build {
-            lent: exact,
-            answer: count,
-        },
-        tally,
-    );
-    try_build(
-        group,
-        index,
-        file,
-        program,
-        Build {
-            lent: MOST,
-            answer: count,
-        },
-        tally,
-    );
-    if exact < MOST {
-        let more = exact + 1 + index % 16;
-        try_build(
-            group,
-            index,
-            file,
-            program,
-            Build {
-                lent: more,
-                answer: count,
-            },
-            tally,
-        );
-    }
-    if exact > 0 {
-        try_build(
-            group,
-            index,
-            file,
-            b"",
-            Build {
-                lent: exact - 1,
-                answer: short,
-            },
-            tally,
-        );
-        try_build(
-            group,
-            index,
-            file,
-            b"",
-            Build {
-                lent: 0,
-                answer: short,
-            },
-            tally,
-        );
+    match turn {
+        0 => exact,
+        1 => exact + 1 + index % 16,
+        2 => less(exact),
+        3 => 0,
+        _ => MOST,
     }
 }
 
-// Some, all, none.
-fn try_refused(group: &[u8], index: usize, file: &[u8], refusal: u32, tally: &mut Tally)
-    requires { ⌜ refusal < 65536 ⌝ }
+fn less(n: usize) -> usize {
+    if n == 0 {
+        return 0;
+    }
+    n - 1
+}
+
+// As many as a program needs; a file that is refused has 0 to 599 for that.
+fn exact_of(c: Case, index: usize) -> usize
+    requires { ⌜ c .count < 65536 ⌝ }
+    ensures { λ r. ⌜ r < 1048576 ⌝ }
 {
-    let answer = refusal * 65536;
-    try_build(
-        group,
-        index,
-        file,
-        b"",
-        Build {
-            lent: 1 + index % 600,
-            answer: answer,
-        },
-        tally,
-    );
-    try_build(
-        group,
-        index,
-        file,
-        b"",
-        Build {
-            lent: MOST,
-            answer: answer,
-        },
-        tally,
-    );
-    try_build(
-        group,
-        index,
-        file,
-        b"",
-        Build {
-            lent: 0,
-            answer: answer,
-        },
-        tally,
-    );
+    if c.refusal != 0 {
+        return index % 600;
+    }
+    8 * c.count as usize
+}
+
+fn try_length(file: &[u8], program: &[u8], c: Case, lent: usize, tally: &mut Tally) -> bool
+    requires { ⌜ (c .refusal < 65536) × (c .count < 65536) ⌝ }
+{
+    let answer = answer_of(c, lent);
+    add(tally, place_of(answer));
+    if is_right(file, program, lent, answer) {
+        return true;
+    }
+    add(tally, 10);
+    false
+}
+
+// A build of every length; answers whether none differs.
+fn try_lengths(file: &[u8], program: &[u8], c: Case, index: usize, tally: &mut Tally) -> bool
+    requires { ⌜ (c .refusal < 65536) × (c .count < 65536) ⌝ }
+{
+    let exact = exact_of(c, index);
+    let mut turn = 0;
+    let mut good = true;
+    while turn < 5 {
+        good = try_length(file, program, c, lent_of(turn, exact, index), tally) && good;
+        turn += 1;
+    }
+    good
 }
 
 fn half(high: u8, low: u8) -> u32
@@ -303,9 +263,7 @@ fn first(buffer: &[u8], n: usize) -> &[u8] {
 // What cannot be read is a difference.
 fn unread(group: &[u8], index: usize, tally: &mut Tally) {
     add(tally, 10);
-    text(group);
-    text(b" ");
-    number(index as u64);
+    print_place(group, index);
     text(b": the case cannot be read\n");
 }
 
@@ -323,17 +281,15 @@ fn replay(group: &[u8], index: usize, tally: &mut Tally) {
         unread(group, index, tally);
         return;
     }
-    if c.refusal == 0 {
-        try_accepted(
-            group,
-            index,
-            first(&file, c.file),
-            first(&program, length),
-            c.count,
-            tally,
-        );
-    } else {
-        try_refused(group, index, first(&file, c.file), c.refusal, tally);
+    if !try_lengths(
+        first(&file, c.file),
+        first(&program, length),
+        c,
+        index,
+        tally,
+    ) {
+        print_place(group, index);
+        text(b" differs\n");
     }
 }
 
