@@ -89,15 +89,15 @@ fn place(
     }
 }
 
-// A file of at most 16 records.
+// A file of at most 8 records.
 fn place_small(tree: &[u8], link: LinkType, program: &mut [u8]) -> BuildResult
-    requires { ⌜ P.Checked (now tree) 16 × P.Cleared (now program) ⌝ }
+    requires { ⌜ P.Checked (now tree) 8 × P.Cleared (now program) ⌝ }
     ensures { λ r. ⌜ P.Into (C.compile link (treeOf (now (tree .entry)) 0)) (length (now (program .entry))) (now (program .exit)) r ⌝ }
 {
-    let mut notes = [0u64; 80];
-    let mut insns = [0u64; 474];
-    let mut success = [0u16; 472];
-    let mut failure = [0u16; 472];
+    let mut notes = [0u64; 40];
+    let mut insns = [0u64; 226];
+    let mut success = [0u16; 224];
+    let mut failure = [0u16; 224];
     place(
         tree,
         link,
@@ -109,15 +109,15 @@ fn place_small(tree: &[u8], link: LinkType, program: &mut [u8]) -> BuildResult
     )
 }
 
-// A file of at most 40 records.
+// A file of at most 32 records.
 fn place_middle(tree: &[u8], link: LinkType, program: &mut [u8]) -> BuildResult
-    requires { ⌜ P.Checked (now tree) 40 × P.Cleared (now program) ⌝ }
+    requires { ⌜ P.Checked (now tree) 32 × P.Cleared (now program) ⌝ }
     ensures { λ r. ⌜ P.Into (C.compile link (treeOf (now (tree .entry)) 0)) (length (now (program .entry))) (now (program .exit)) r ⌝ }
 {
-    let mut notes = [0u64; 200];
-    let mut insns = [0u64; 1218];
-    let mut success = [0u16; 1216];
-    let mut failure = [0u16; 1216];
+    let mut notes = [0u64; 160];
+    let mut insns = [0u64; 970];
+    let mut success = [0u16; 968];
+    let mut failure = [0u16; 968];
     place(
         tree,
         link,
@@ -157,10 +157,10 @@ pub fn build(tree: &[u8], program: &mut [u8]) -> BuildResult
     match reader::check(tree) {
         Checked::Refused(r) => BuildResult::Refused(r),
         Checked::Link(link) => {
-            if tree.len() <= 392 {
+            if tree.len() <= 200 {
                 return place_small(tree, link, program);
             }
-            if tree.len() <= 968 {
+            if tree.len() <= 776 {
                 return place_middle(tree, link, program);
             }
             place_large(tree, link, program)
