@@ -165,7 +165,8 @@ pub fn ja_skip(insns: &mut [u64], p: Patches, d: u8) -> Patches
 
 // ---- resolving
 
-fn resolve(w: u64, d: u64) -> u64
+// A line whose jump goes over d lines. Which field of the instruction that is, is written in the row of instructions (`output`).
+fn with_distance(w: u64, d: u64) -> u64
     requires { ⌜ d < 256 ⌝ }
     ensures { λ r. ⌜ r ≡ withDistance w d ⌝ }
 {
@@ -184,7 +185,7 @@ pub fn resolve_all(insns: &mut [u64], stack: &[u16], from: usize, to: usize, tar
         if 255 < d {
             return false;
         }
-        insns[place] = resolve(insns[place], d as u64);
+        insns[place] = with_distance(insns[place], d as u64);
         i += 1;
     }
     true

@@ -47,11 +47,11 @@ returns c =
     (sym (sym (l .loop .inv .3) ∙ resolve-far (a .stack .now) (l .loop .i) (a .to) (c .before .before .loop-test .taken) (omega arith) (a .target) (l .loop .insns) (c .if1 .taken)))
     refl
 
-mul-resolve : tie.Need-mul-resolve Inv-loop μ-loop
-mul-resolve c = omega (arith, step (c .before .before) .0)
+mul-with-distance : tie.Need-mul-with-distance Inv-loop μ-loop
+mul-with-distance c = omega (arith, step (c .before .before) .0)
 
-slice-read-resolve : tie.Need-slice-read-resolve Inv-loop μ-loop
-slice-read-resolve c = omega (arith, step (c .before .before .before) .0)
+slice-read-with-distance : tie.Need-slice-read-with-distance Inv-loop μ-loop
+slice-read-with-distance c = omega (arith, step (c .before .before .before) .0)
 
 mul-insns : tie.Need-mul-insns Inv-loop μ-loop
 mul-insns c = omega (arith, step (c .before .before .before .before) .0)
@@ -66,7 +66,7 @@ loop-again c =
       omega arith,
       simp length-set (l .loop .inv .1),
       step (c .before .before .before .before) .1,
-      rw (c .resolve .ensures)
+      rw (c .with-distance .ensures)
           (resolve-step (a .stack .now) (l .loop .i) (a .to) (c .before .before .before .before .loop-test .taken) (omega arith) (a .target) (l .loop .insns) (c .before .before .if1 .left) ∙ l .loop .inv .3),
     )
 
@@ -92,8 +92,8 @@ resolve-all-spec =
     sub-d-2
     (λ c. search needs)
     returns
-    mul-resolve
-    slice-read-resolve
+    mul-with-distance
+    slice-read-with-distance
     (λ c κs. search needs)
     mul-insns
     slice-write-insns
