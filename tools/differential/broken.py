@@ -90,9 +90,7 @@ WORTHLESS = [
         """let off = off as usize;
     match size {""",
         """let off = off as usize;
-    if off + 4 > pkt.len() {
-        return None;
-    }
+    let pkt = &pkt[..pkt.len().saturating_sub(1)];
     match size {""",
     ),
     (
@@ -116,6 +114,7 @@ WORTHLESS = [
     ),
 ]
 
+# And, or, not: hoisting, facts, guards.
 JOINS = [
     (
         "ports are hoisted before the ethertype",
@@ -223,10 +222,30 @@ JOINS = [
 ]
 
 JUMPS = [
-    ("jt is written to jf", "codegen", "self.insns[i].jt = Self::offset(i, target_idx)?;", "self.insns[i].jf = Self::offset(i, target_idx)?;"),
-    ("distances up to 256 are taken", "codegen", "if diff > 255 {", "if diff > 256 {"),
-    ("distances up to 254 are taken", "codegen", "if diff > 255 {", "if diff > 254 {"),
-    ("a distance counts from the jump itself", "codegen", "let diff = to - from - 1;", "let diff = to - from;"),
+    (
+        "jt is written to jf",
+        "codegen",
+        "self.insns[i].jt = Self::offset(i, target_idx)?;",
+        "self.insns[i].jf = Self::offset(i, target_idx)?;",
+    ),
+    (
+        "distances up to 256 are taken",
+        "codegen",
+        "if diff > 255 {",
+        "if diff > 256 {",
+    ),
+    (
+        "distances up to 254 are taken",
+        "codegen",
+        "if diff > 255 {",
+        "if diff > 254 {",
+    ),
+    (
+        "a distance counts from the jump itself",
+        "codegen",
+        "let diff = to - from - 1;",
+        "let diff = to - from;",
+    ),
     (
         "a far jump is met only at the end",
         "codegen",
@@ -243,53 +262,208 @@ JUMPS = [
 ]
 
 CONDITIONS = [
-    ("LinuxSll's network header starts at 14", "codegen", "LinkType::LinuxSll => 16,", "LinkType::LinuxSll => 14,"),
-    ("LinuxSll's ethertype is at 12", "codegen", "LinkType::LinuxSll => Some(14),", "LinkType::LinuxSll => Some(12),"),
-    ("RawIp starts with the ethertype 0x86dd", "codegen", "ethertype: (link == LinkType::RawIp).then_some(0x0800),", "ethertype: (link == LinkType::RawIp).then_some(0x86dd),"),
-    ("a prefix mask is off by a bit", "codegen", "let mask = (0xffffu32 << (16 - bits)) & 0xffff;", "let mask = (0xffffu32 << (15 - bits)) & 0xffff;"),
-    ("IPv6's destination is at 22", "codegen", """let dst_off = base + 24;
-        let segs = addr.segments();""", """let dst_off = base + 22;
-        let segs = addr.segments();"""),
-    ("a range leaves out its low end", "codegen", "cg.push(Insn::jge_k(lo as u32, 0, 0xff));", "cg.push(Insn::jgt_k(lo as u32, 0, 0xff));"),
-    ("ports without a protocol take SCTP", "codegen", "None => Ok(L4Set::TcpOrUdp),", "None => Ok(L4Set::One(132)),"),
-    ("Num 6 is a port protocol", "codegen", "Some(Proto::Tcp) => Ok(L4Set::One(6)),", "Some(Proto::Tcp | Proto::Num(6)) => Ok(L4Set::One(6)),"),
-    ("a pinned protocol does not narrow the set", "codegen", """Some(n) if want.contains(n) => L4Set::One(n),
+    (
+        "LinuxSll's network header starts at 14",
+        "codegen",
+        "LinkType::LinuxSll => 16,",
+        "LinkType::LinuxSll => 14,",
+    ),
+    (
+        "LinuxSll's ethertype is at 12",
+        "codegen",
+        "LinkType::LinuxSll => Some(14),",
+        "LinkType::LinuxSll => Some(12),",
+    ),
+    (
+        "RawIp starts with the ethertype 0x86dd",
+        "codegen",
+        "ethertype: (link == LinkType::RawIp).then_some(0x0800),",
+        "ethertype: (link == LinkType::RawIp).then_some(0x86dd),",
+    ),
+    (
+        "a prefix mask is off by a bit",
+        "codegen",
+        "let mask = (0xffffu32 << (16 - bits)) & 0xffff;",
+        "let mask = (0xffffu32 << (15 - bits)) & 0xffff;",
+    ),
+    (
+        "IPv6's destination is at 22",
+        "codegen",
+        """let dst_off = base + 24;
+        let segs = addr.segments();""",
+        """let dst_off = base + 22;
+        let segs = addr.segments();""",
+    ),
+    (
+        "a range leaves out its low end",
+        "codegen",
+        "cg.push(Insn::jge_k(lo as u32, 0, 0xff));",
+        "cg.push(Insn::jgt_k(lo as u32, 0, 0xff));",
+    ),
+    (
+        "ports without a protocol take SCTP",
+        "codegen",
+        "None => Ok(L4Set::TcpOrUdp),",
+        "None => Ok(L4Set::One(132)),",
+    ),
+    (
+        "Num 6 is a port protocol",
+        "codegen",
+        "Some(Proto::Tcp) => Ok(L4Set::One(6)),",
+        "Some(Proto::Tcp | Proto::Num(6)) => Ok(L4Set::One(6)),",
+    ),
+    (
+        "a pinned protocol does not narrow the set",
+        "codegen",
+        """Some(n) if want.contains(n) => L4Set::One(n),
                     _ => {
-                        self.push(Insn::ldb_abs(ip4_proto_off));""", """Some(n) if want.contains(n) => want,
+                        self.push(Insn::ldb_abs(ip4_proto_off));""",
+        """Some(n) if want.contains(n) => want,
                     _ => {
-                        self.push(Insn::ldb_abs(ip4_proto_off));"""),
-    ("Tcp's guards have no protocol", "codegen", "g.ip4_proto = Some(6);", "g.ip4_proto = None;"),
-    ("broadcast looks at the source", "codegen", """let dst_off = self.net_offset() + 16;
-        let q = self.check_word""", """let dst_off = self.net_offset() + 12;
-        let q = self.check_word"""),
-    ("accept returns 65,535", "bpf", "pub const BPF_ACCEPT: u32 = 0xffff_ffff;", "pub const BPF_ACCEPT: u32 = 0xffff;"),
+                        self.push(Insn::ldb_abs(ip4_proto_off));""",
+    ),
+    (
+        "Tcp's guards have no protocol",
+        "codegen",
+        "g.ip4_proto = Some(6);",
+        "g.ip4_proto = None;",
+    ),
+    (
+        "broadcast looks at the source",
+        "codegen",
+        """let dst_off = self.net_offset() + 16;
+        let q = self.check_word""",
+        """let dst_off = self.net_offset() + 12;
+        let q = self.check_word""",
+    ),
+    (
+        "accept returns 65,535",
+        "bpf",
+        "pub const BPF_ACCEPT: u32 = 0xffff_ffff;",
+        "pub const BPF_ACCEPT: u32 = 0xffff;",
+    ),
 ]
 
 MACHINE = [
-    ("a left shift is not masked", "vm", "BPF_LSH => a << (v & 31),", "BPF_LSH => a.checked_shl(v).unwrap_or(0),"),
-    ("a right shift is masked by 63", "vm", "BPF_RSH => a >> (v & 31),", "BPF_RSH => a.checked_shr(v & 63).unwrap_or(0),"),
-    ("division by zero drops", "vm", """if v == 0 {
-                            return None;""", """if v == 0 {
-                            return Some(false);"""),
-    ("the frame's end is tested before the size", "vm", """BPF_B => Some(*pkt.get(off)? as u32),
-        _ => None,""", """_ => Some(*pkt.get(off)? as u32).filter(|_| size == BPF_B),"""),
-    ("size 0x18 loads a byte", "vm", """BPF_B => Some(*pkt.get(off)? as u32),
-        _ => None,""", """_ => Some(*pkt.get(off)? as u32),"""),
-    ("X + k does not wrap", "vm", "x.wrapping_add(insn.k)", "x.saturating_add(insn.k)"),
-    ("sums stop at the highest", "vm", "BPF_ADD => a.wrapping_add(v),", "BPF_ADD => a.saturating_add(v),"),
-    ("products keep 31 bits", "vm", "BPF_MUL => a.wrapping_mul(v),", "BPF_MUL => a.wrapping_mul(v) & 0x7fff_ffff,"),
-    ("MOD is known", "vm", "BPF_XOR => a ^ v,", """BPF_XOR => a ^ v,
-                    0x90 if v != 0 => a % v,"""),
-    ("the X bit of a code is 0x10", "vm", "insn.code & 0x08 == BPF_X", "insn.code & 0x10 != 0"),
-    ("jgt is jge", "vm", "BPF_JGT => a > v,", "BPF_JGT => a >= v,"),
-    ("ja's distance has 16 bits", "vm", "pc = pc.wrapping_add(insn.k as usize);", "pc = pc.wrapping_add(insn.k as u16 as usize);"),
-    ("MSH goes with every size", "vm", "if size == BPF_B && mode == BPF_MSH {", "if mode == BPF_MSH {"),
-    ("MSH keeps the high half", "vm", "as u32 & 0xf)", "as u32 >> 4)"),
-    ("the high byte of a code counts", "vm", "match insn.code & 0x07 {", "match insn.code & 0x8007 {"),
-    ("a seventeenth scratch word", "vm", "const SCRATCH: usize = 16;", "const SCRATCH: usize = 17;"),
-    ("scratch words start as 1", "vm", "let mut scratch = [0u32; SCRATCH];", "let mut scratch = [1u32; SCRATCH];"),
-    ("a return looks at its low bits only", "vm", "return Some(retval != 0);", "return Some(retval & 0xffff != 0);"),
-    ("a word is little-endian", "vm", "Some(u32::from_be_bytes([b[0], b[1], b[2], b[3]]))", "Some(u32::from_le_bytes([b[0], b[1], b[2], b[3]]))"),
+    (
+        "a left shift is not masked",
+        "vm",
+        "BPF_LSH => a << (v & 31),",
+        "BPF_LSH => a.checked_shl(v).unwrap_or(0),",
+    ),
+    (
+        "a right shift is masked by 63",
+        "vm",
+        "BPF_RSH => a >> (v & 31),",
+        "BPF_RSH => a.checked_shr(v & 63).unwrap_or(0),",
+    ),
+    (
+        "division by zero drops",
+        "vm",
+        """if v == 0 {
+                            return None;""",
+        """if v == 0 {
+                            return Some(false);""",
+    ),
+    (
+        "the frame's end is tested before the size",
+        "vm",
+        """BPF_B => Some(*pkt.get(off)? as u32),
+        _ => None,""",
+        "_ => Some(*pkt.get(off)? as u32).filter(|_| size == BPF_B),",
+    ),
+    (
+        "size 0x18 loads a byte",
+        "vm",
+        """BPF_B => Some(*pkt.get(off)? as u32),
+        _ => None,""",
+        "_ => Some(*pkt.get(off)? as u32),",
+    ),
+    (
+        "X + k does not wrap",
+        "vm",
+        "x.wrapping_add(insn.k)",
+        "x.saturating_add(insn.k)",
+    ),
+    (
+        "sums stop at the highest",
+        "vm",
+        "BPF_ADD => a.wrapping_add(v),",
+        "BPF_ADD => a.saturating_add(v),",
+    ),
+    (
+        "products keep 31 bits",
+        "vm",
+        "BPF_MUL => a.wrapping_mul(v),",
+        "BPF_MUL => a.wrapping_mul(v) & 0x7fff_ffff,",
+    ),
+    (
+        "MOD is known",
+        "vm",
+        "BPF_XOR => a ^ v,",
+        """BPF_XOR => a ^ v,
+                    0x90 if v != 0 => a % v,""",
+    ),
+    (
+        "the X bit of a code is 0x10",
+        "vm",
+        "insn.code & 0x08 == BPF_X",
+        "insn.code & 0x10 != 0",
+    ),
+    (
+        "jgt is jge",
+        "vm",
+        "BPF_JGT => a > v,",
+        "BPF_JGT => a >= v,",
+    ),
+    (
+        "ja's distance has 16 bits",
+        "vm",
+        "pc = pc.wrapping_add(insn.k as usize);",
+        "pc = pc.wrapping_add(insn.k as u16 as usize);",
+    ),
+    (
+        "MSH goes with every size",
+        "vm",
+        "if size == BPF_B && mode == BPF_MSH {",
+        "if mode == BPF_MSH {",
+    ),
+    (
+        "MSH keeps the high half",
+        "vm",
+        "as u32 & 0xf)",
+        "as u32 >> 4)",
+    ),
+    (
+        "the high byte of a code counts",
+        "vm",
+        "match insn.code & 0x07 {",
+        "match insn.code & 0x8007 {",
+    ),
+    (
+        "a seventeenth scratch word",
+        "vm",
+        "const SCRATCH: usize = 16;",
+        "const SCRATCH: usize = 17;",
+    ),
+    (
+        "scratch words start as 1",
+        "vm",
+        "let mut scratch = [0u32; SCRATCH];",
+        "let mut scratch = [1u32; SCRATCH];",
+    ),
+    (
+        "a return looks at its low bits only",
+        "vm",
+        "return Some(retval != 0);",
+        "return Some(retval & 0xffff != 0);",
+    ),
+    (
+        "a word is little-endian",
+        "vm",
+        "Some(u32::from_be_bytes([b[0], b[1], b[2], b[3]]))",
+        "Some(u32::from_le_bytes([b[0], b[1], b[2], b[3]]))",
+    ),
 ]
 
 GROUPS = [

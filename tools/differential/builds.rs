@@ -5,7 +5,7 @@ use std::collections::{BTreeMap, HashMap};
 
 use crate::part::{to_hex, Part};
 use crate::trees::{self, edges, systematic, Rng};
-use crate::{exports, insn, Number, HEADER, INSN, MAX_PROGRAM, MAX_RECORDS, RECORD};
+use crate::{exports, insn, shrink, Number, HEADER, INSN, MAX_PROGRAM, MAX_RECORDS, RECORD};
 
 /// Bytes before and after the lent part, and what the lent part holds before.
 const MARGIN: usize = 16;
@@ -218,20 +218,43 @@ impl Met {
 fn compare(file: &[u8], answer: &Answer, sizes: &mut Rng, met: &mut Met) {
     met.note(file, answer);
     for length in lengths(sizes, answer) {
-        let (here, there) = (got(file, length), wanted(answer, length));
         met.calls += 1;
-        met.short += (there.0 == 9 << 16) as u64;
-        if here != there {
+        met.short += answer.as_ref().is_ok_and(|p| p.len() > length) as u64;
+        if let Some(words) = difference(file, answer, length) {
             met.part.differs(file.len(), || {
-                let words = (shown(here.0), shown(there.0), to_hex(file));
-                format!(
-                    "buffer of {length}: pft_build {}, the Rust {}, tree {}",
-                    words.0, words.1, words.2
-                )
+                let least = shrink::tree(file, |f| any_difference(f).is_some());
+                any_difference(&least).unwrap_or(words)
             });
             return;
         }
     }
+}
+
+/// How a buffer of a length differs.
+fn difference(file: &[u8], answer: &Answer, length: usize) -> Option<String> {
+    let (here, there) = (got(file, length), wanted(answer, length));
+    if here == there {
+        return None;
+    }
+    let mut bytes = here.1.iter().zip(&there.1);
+    let place = bytes.position(|(a, b)| a != b).unwrap_or(0) as i64 - MARGIN as i64;
+    let (here, there, tree) = (shown(here.0), shown(there.0), to_hex(file));
+    let place = if here == there {
+        format!(" with another byte {place}")
+    } else {
+        String::new()
+    };
+    Some(format!(
+        "buffer of {length}: pft_build {here}, the Rust {there}{place}, tree {tree}"
+    ))
+}
+
+/// The same for the exact length, more, less and none.
+fn any_difference(file: &[u8]) -> Option<String> {
+    let answer = rust_answer(file);
+    let exact = answer.as_ref().map_or(600, Vec::len);
+    let mut lengths = [exact, exact + 9, exact - 1, 0].into_iter();
+    lengths.find_map(|length| difference(file, &answer, length))
 }
 
 fn compare_file(file: &[u8], sizes: &mut Rng, met: &mut Met) {
@@ -296,11 +319,10 @@ fn compare_systematic(sizes: &mut Rng, met: &mut Met) {
     }
 }
 
-/// The systematic files, and so many random ones.
+/// So many random files, then the systematic ones.
 pub fn compare_all(seed: u64, count: u64) -> Met {
     let (mut rng, mut edge, mut sizes) = (Rng(seed), Rng(seed ^ 0xED6E), Rng(!seed));
     let mut met = Met::new();
-    compare_systematic(&mut sizes, &mut met);
     for _ in 0..count / 2 {
         compare_file(&trees::tree_file(&mut rng), &mut sizes, &mut met);
     }
@@ -314,5 +336,6 @@ pub fn compare_all(seed: u64, count: u64) -> Met {
     while made < count / 8 {
         made += 1 + compare_tuned(&mut edge, &mut sizes, &mut met);
     }
+    compare_systematic(&mut sizes, &mut met);
     met
 }

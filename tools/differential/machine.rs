@@ -8,7 +8,7 @@ use std::collections::HashSet;
 use crate::bpf::Insn;
 use crate::part::{to_hex, Part};
 use crate::trees::Rng;
-use crate::{exports, fail, insn, traced, vm, INSN, MAX_FRAME, MAX_PROGRAM};
+use crate::{exports, fail, insn, shrink, traced, vm, INSN, MAX_FRAME, MAX_PROGRAM};
 
 pub const ACCEPTED: u32 = 1;
 pub const DROPPED: u32 = 2;
@@ -108,13 +108,7 @@ fn compare(program: &[u8], frame: &[u8], met: &mut Met) {
     met.note(there);
     let size = program.len() + frame.len();
     if here != there {
-        met.part.differs(size, || {
-            let words = (shown(here), shown(there), to_hex(program), to_hex(frame));
-            format!(
-                "pft_run {}, the Rust {}, program {} frame {}",
-                words.0, words.1, words.2, words.3
-            )
-        });
+        met.part.differs(size, || least_difference(program, frame));
     } else if lent.0 != program || lent.1 != frame {
         met.part.differs(size, || {
             format!(
@@ -124,6 +118,19 @@ fn compare(program: &[u8], frame: &[u8], met: &mut Met) {
             )
         });
     }
+}
+
+fn least_difference(program: &[u8], frame: &[u8]) -> String {
+    let differs = |p: &[u8], f: &[u8]| exports::run(p, f) != wanted(p, f);
+    let program = shrink::program(program, |p| differs(p, frame));
+    let frame = shrink::frame(frame, |f| differs(&program, f));
+    format!(
+        "pft_run {}, the Rust {}, program {} frame {}",
+        shown(exports::run(&program, &frame)),
+        shown(wanted(&program, &frame)),
+        to_hex(&program),
+        to_hex(&frame)
+    )
 }
 
 // ── Programs ─────────────────────────────────────────────────────────────────

@@ -14,6 +14,7 @@ mod frames;
 mod machine;
 mod part;
 mod readings;
+mod shrink;
 #[allow(dead_code)]
 mod traced;
 mod trees;

@@ -8,7 +8,7 @@ use crate::frames::{self, network, REACH};
 use crate::machine::{rust_run, shown, ACCEPTED, BROKEN, DROPPED, SHORT};
 use crate::part::{to_hex, Part};
 use crate::trees::{self, edges, Rng};
-use crate::{exports, vm, HEADER, INSN, MAX_FRAME, RECORD};
+use crate::{exports, shrink, vm, HEADER, INSN, MAX_FRAME, RECORD};
 
 /// An accepted tree.
 struct Tree {
@@ -67,16 +67,6 @@ impl Met {
         self.lengths[class] += 1;
     }
 
-    fn differs(&mut self, tree: &Tree, frame: &[u8], what: &str) {
-        self.part.differs(tree.file.len() + frame.len(), || {
-            format!(
-                "{what}, tree {} frame {}",
-                to_hex(&tree.file),
-                to_hex(frame)
-            )
-        });
-    }
-
     pub fn print(&self) {
         println!(
             "readings of {} accepted trees with {} conditions, and {} refused readings",
@@ -111,8 +101,8 @@ fn rust_truth(tree: &Tree, frame: &[u8]) -> Option<bool> {
     vm::verdict(&tree.insns, &space[..tree.enough])
 }
 
-/// Asks the port and the Rust.
-fn ask(tree: &Tree, frame: &[u8], met: &mut Met) -> Seen {
+/// Asks the port and the Rust; what is wrong, if anything.
+fn look(tree: &Tree, frame: &[u8]) -> (Seen, Option<String>) {
     let number = exports::run(&tree.program, frame);
     let direct = exports::direct(&tree.file, frame);
     let seen = Seen {
@@ -120,25 +110,36 @@ fn ask(tree: &Tree, frame: &[u8], met: &mut Met) -> Seen {
         steps: number & 0xFFFF,
         truth: direct == 1,
     };
-    met.note(tree, frame, seen);
     let there = rust_run(&tree.insns, frame);
     let truth = rust_truth(tree, frame);
-    if number != there {
-        met.differs(
-            tree,
-            frame,
-            &format!("pft_run {}, the Rust {}", shown(number), shown(there)),
-        );
+    let wrong = if number != there {
+        let (here, there) = (shown(number), shown(there));
+        Some(format!("pft_run {here}, the Rust {there}"))
     } else if direct > 1 || truth != Some(seen.truth) {
-        met.differs(
-            tree,
-            frame,
-            &format!("pft_direct {direct}, the Rust {truth:?}"),
-        );
-    } else if let Some(what) = odd(tree, frame, seen) {
-        met.differs(tree, frame, what);
+        Some(format!("pft_direct {direct}, the Rust {truth:?}"))
+    } else {
+        odd(tree, frame, seen).map(String::from)
+    };
+    (seen, wrong)
+}
+
+fn ask(tree: &Tree, frame: &[u8], met: &mut Met) -> Seen {
+    let (seen, wrong) = look(tree, frame);
+    met.note(tree, frame, seen);
+    if wrong.is_some() {
+        let size = tree.file.len() + frame.len();
+        met.part
+            .differs(size, || least_difference(&tree.file, frame));
     }
     seen
+}
+
+fn least_difference(file: &[u8], frame: &[u8]) -> String {
+    let wrong = |file: &[u8], frame: &[u8]| look(&tree_of(file)?, frame).1;
+    let file = shrink::tree(file, |file| wrong(file, frame).is_some());
+    let frame = shrink::frame(frame, |frame| wrong(&file, frame).is_some());
+    let words = wrong(&file, &frame).unwrap_or_default();
+    format!("{words}, tree {} frame {}", to_hex(&file), to_hex(&frame))
 }
 
 /// What demands 1 and 3 say of one frame.
@@ -157,11 +158,10 @@ fn odd(tree: &Tree, frame: &[u8], seen: Seen) -> Option<&'static str> {
 fn extends(tree: &Tree, f: Seen, g: Seen, frame: &[u8], met: &mut Met) {
     met.pairs += 1;
     if g.verdict != f.verdict || g.truth != (f.verdict == ACCEPTED) {
-        met.differs(
-            tree,
-            frame,
-            "not the verdict of a frame that it begins with",
-        );
+        met.part.differs(tree.file.len() + frame.len(), || {
+            let (tree, frame) = (to_hex(&tree.file), to_hex(frame));
+            format!("not the verdict of a frame that it begins with, tree {tree} frame {frame}")
+        });
     }
 }
 
@@ -216,23 +216,18 @@ fn compare_frame(rng: &mut Rng, tree: &Tree, met: &mut Met) {
 
 // ── Trees ────────────────────────────────────────────────────────────────────
 
-/// The tree with both programs; the port's has to be there where the Rust's is.
-fn accepted(file: Vec<u8>, met: &mut Met) -> Option<Tree> {
-    let insns = crate::build(&file).ok()?;
+/// The tree with both programs, where the Rust takes it. A buffer that the port
+/// leaves empty is a broken program.
+fn tree_of(file: &[u8]) -> Option<Tree> {
+    let insns = crate::build(file).ok()?;
     let mut program = vec![0; INSN * insns.len()];
-    let enough = network(file[5]) + REACH;
-    let count = exports::build(&file, &mut program);
-    let tree = Tree {
-        file,
+    exports::build(file, &mut program);
+    Some(Tree {
+        file: file.to_vec(),
         program,
         insns,
-        enough,
-    };
-    if count as usize != tree.insns.len() {
-        met.differs(&tree, &[], "pft_build does not take it");
-        return None;
-    }
-    Some(tree)
+        enough: network(file[5]) + REACH,
+    })
 }
 
 /// Files that are refused with 1 to 4, and frames that are too long.
@@ -254,6 +249,16 @@ fn compare_refusals(rng: &mut Rng, file: &[u8], met: &mut Met) {
                 to_hex(file)
             )
         });
+    }
+}
+
+/// Two frames in all their lengths, where the tree is accepted.
+fn compare_tree(rng: &mut Rng, file: &[u8], met: &mut Met) {
+    if let Some(tree) = tree_of(file) {
+        met.note_tree(&tree);
+        for _ in 0..2 {
+            compare_frame(rng, &tree, met);
+        }
     }
 }
 
@@ -281,13 +286,7 @@ pub fn compare_all(seed: u64, count: u64) -> Met {
         };
         for file in files {
             compare_refusals(&mut rng, &file, &mut met);
-            let Some(tree) = accepted(file, &mut met) else {
-                continue;
-            };
-            met.note_tree(&tree);
-            for _ in 0..2 {
-                compare_frame(&mut rng, &tree, &mut met);
-            }
+            compare_tree(&mut rng, &file, &mut met);
         }
     }
     met
