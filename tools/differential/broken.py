@@ -1,5 +1,5 @@
-"""Broken copies of the Rust: what is wrong, the file, a text that stands in it
-once, and the text in its place."""
+"""Broken copies of the Rust, and of what stands beside it: what is wrong, the
+file, a text that it has once, and the text in its place."""
 
 # Document 01: "Wrong turns seen in such code".
 WRONG_TURNS = [
@@ -254,7 +254,11 @@ JUMPS = [
         """let mut hoist_failure = hoist_failure;
                     for p in left_p.failure {
                         match p {
-                            Patch::Jt(i) | Patch::Jf(i) | Patch::Ja(i) if right_start - i > 256 => hoist_failure.push(p),
+                            Patch::Jt(i) | Patch::Jf(i) | Patch::Ja(i)
+                                if right_start - i > 256 =>
+                            {
+                                hoist_failure.push(p)
+                            }
                             _ => self.resolve(p, right_start)?,
                         }
                     }""",
@@ -466,6 +470,146 @@ MACHINE = [
     ),
 ]
 
+# Document 01's own checks, which tools/oracle/answers.rs has beside the Rust.
+CHECKS = [
+    (
+        "every other link is LinuxSll",
+        "answers",
+        """3 => Ok(LinkType::LinuxSll),
+        _ => Err(1),""",
+        "_ => Ok(LinkType::LinuxSll),",
+    ),
+    (
+        "129 records are taken",
+        "answers",
+        "count > MAX_RECORDS",
+        "count > MAX_RECORDS + 1",
+    ),
+    (
+        "a file may be longer than its records",
+        "answers",
+        "file.len() != HEADER + RECORD * count",
+        "file.len() < HEADER + RECORD * count",
+    ),
+    (
+        "the last byte of a record is not looked at",
+        "answers",
+        "u.tail.contains(&i) || r[i] == 0",
+        "u.tail.contains(&i) || r[i] == 0 || i == 23",
+    ),
+    (
+        "byte 3 goes with every protocol",
+        "answers",
+        "u.protocol && (r[2] == 11 || r[2] == 12)",
+        "u.protocol",
+    ),
+    (
+        "Ip6Proto is not known",
+        "answers",
+        "r[2] <= 12 &&",
+        "r[2] <= 11 &&",
+    ),
+    (
+        "records after the tree are let through",
+        "answers",
+        """if open == 0 {
+            return false;
+        }""",
+        """if open == 0 {
+            return true;
+        }""",
+    ),
+    (
+        "2 comes before 1",
+        "answers",
+        "let link = link_of(file)?;",
+        """if file.len() >= HEADER {
+        records_of(file)?;
+    }
+    let link = link_of(file)?;""",
+    ),
+    (
+        "4 comes before 3",
+        "answers",
+        """if !records.iter().all(|r| good_record(r)) {
+        return Err(3);
+    }
+    if !one_tree(&records) {
+        return Err(4);
+    }""",
+        """if !one_tree(&records) {
+        return Err(4);
+    }
+    if !records.iter().all(|r| good_record(r)) {
+        return Err(3);
+    }""",
+    ),
+    (
+        "the first bad record is refused before a count that is wrong",
+        "answers",
+        "let records = records_of(file)?;",
+        """if !file[HEADER..].chunks_exact(RECORD).all(good_record) {
+        return Err(3);
+    }
+    let records = records_of(file)?;""",
+    ),
+    (
+        "a run tests 10 before 11",
+        "answers",
+        "if program.is_empty() ||",
+        """if frame.len() > MAX_FRAME {
+        return Err(10);
+    }
+    if program.is_empty() ||""",
+    ),
+    (
+        "frames of 65,536 bytes are run",
+        "answers",
+        "const MAX_FRAME: usize = 65_535;",
+        "const MAX_FRAME: usize = 65_536;",
+    ),
+    (
+        "programs of 32,776 bytes are run",
+        "answers",
+        "const MAX_PROGRAM: usize = 32_768;",
+        "const MAX_PROGRAM: usize = 32_776;",
+    ),
+]
+
+# What document 01 says of the lent buffer, which builds.rs has beside the Rust.
+BUFFER = [
+    (
+        "a buffer of exactly 8 bytes for an instruction is too short",
+        "builds",
+        "Ok(p) if p.len() > length => (9 << 16, &[]),",
+        "Ok(p) if p.len() >= length => (9 << 16, &[]),",
+    ),
+    (
+        "a byte less than 8 for an instruction is enough",
+        "builds",
+        "Ok(p) if p.len() > length => (9 << 16, &[]),",
+        "Ok(p) if p.len() > length + 1 => (9 << 16, &[]),",
+    ),
+    (
+        "the rest of the buffer stays as it was",
+        "builds",
+        "space.resize(MARGIN + length, 0);",
+        "space.resize(MARGIN + length, if number < 65536 { STALE } else { 0 });",
+    ),
+    (
+        "a refusal leaves the buffer as it was",
+        "builds",
+        "space.resize(MARGIN + length, 0);",
+        "space.resize(MARGIN + length, if number < 65536 { 0 } else { STALE });",
+    ),
+    (
+        "a byte behind the buffer is zeroed",
+        "builds",
+        "space.resize(MARGIN + length, 0);",
+        "space.resize(MARGIN + length + 1, 0);",
+    ),
+]
+
 GROUPS = [
     ("wrong turns", WRONG_TURNS),
     ("worthless versions", WORTHLESS),
@@ -473,4 +617,6 @@ GROUPS = [
     ("jumps", JUMPS),
     ("conditions", CONDITIONS),
     ("machine", MACHINE),
+    ("checks", CHECKS),
+    ("buffer", BUFFER),
 ]

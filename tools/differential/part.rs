@@ -52,17 +52,19 @@ impl Part {
     }
 }
 
-/// Bytes in hex, `-` for none; zeros at the end of many are told by their number.
+/// Bytes in hex, `-` for none; many equal ones at the end are told by their number,
+/// as 00*80.
 pub fn to_hex(bytes: &[u8]) -> String {
-    let end = bytes.iter().rposition(|b| *b != 0).map_or(0, |i| i + 1);
-    let (shown, zeros) = match bytes.len() - end {
-        0..=64 => (bytes, 0),
-        zeros => (&bytes[..end], zeros),
-    };
+    let last = bytes.last().copied().unwrap_or(0);
+    let differs = bytes.iter().rposition(|b| *b != last);
+    let start = differs.map_or(0, |at| at + 1);
+    let equal = bytes.len() - start;
+    let shown = if equal > 64 { &bytes[..start] } else { bytes };
     let text: String = shown.iter().map(|b| format!("{b:02x}")).collect();
-    match (text.is_empty(), zeros) {
-        (true, 0) => "-".into(),
-        (_, 0) => text,
-        _ => format!("{text}+{zeros} zeros"),
+    match (equal > 64, text.is_empty()) {
+        (true, true) => format!("{last:02x}*{equal}"),
+        (true, false) => format!("{text} {last:02x}*{equal}"),
+        (false, true) => "-".into(),
+        (false, false) => text,
     }
 }

@@ -2,15 +2,19 @@
 
 use crate::{HEADER, INSN, RECORD};
 
-/// Where the tree that starts at a record ends.
-fn end(records: &[&[u8]], at: usize) -> usize {
+/// Where the tree that starts at a record ends, if it does.
+fn end_of(records: &[&[u8]], at: usize) -> Option<usize> {
     let mut open = 1;
     let mut next = at;
     while open > 0 {
-        open = open - 1 + crate::parts(records[next]);
+        open = open - 1 + crate::parts(records.get(next)?);
         next += 1;
     }
-    next
+    Some(next)
+}
+
+fn end(records: &[&[u8]], at: usize) -> usize {
+    end_of(records, at).expect("a tree")
 }
 
 /// A file with the tree at a record replaced by one of its parts.
@@ -56,7 +60,10 @@ fn least(
 
 /// A tree file; one that is not one tree stays as it is.
 pub fn tree(file: &[u8], differs: impl Fn(&[u8]) -> bool) -> Vec<u8> {
-    if crate::check(file).is_err() {
+    let behind = file.get(HEADER..).unwrap_or(&[]).chunks_exact(RECORD);
+    let whole = behind.remainder().is_empty();
+    let records: Vec<&[u8]> = behind.collect();
+    if !whole || end_of(&records, 0) != Some(records.len()) {
         return file.to_vec();
     }
     least(file.to_vec(), smaller_trees, differs)

@@ -45,9 +45,10 @@ pub fn lengths() -> impl Iterator<Item = Vec<u8>> {
     })
 }
 
-/// Every count from 0 to 300 with the length that belongs to it.
+/// Every count from 0 to 300, and the highest, with the length that belongs to it.
 pub fn counts() -> impl Iterator<Item = Vec<u8>> {
-    (0..301).map(|n| file_of(LINKS[n % 3], &one_tree(n)))
+    let all = (0..301).chain([4096, 65_535]);
+    all.map(|n| file_of(LINKS[n % 3], &one_tree(n)))
 }
 
 const KINDS_AND_OTHERS: [u8; 24] = [
