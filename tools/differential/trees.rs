@@ -6,6 +6,11 @@
 //! condition that the link or the port cannot take (5, 6, 7), and some have
 //! jumps of about 255.
 
+#[path = "edges.rs"]
+pub mod edges;
+#[path = "systematic.rs"]
+pub mod systematic;
+
 const AND: u8 = 1;
 const OR: u8 = 2;
 const NOT: u8 = 3;
@@ -423,6 +428,11 @@ fn chain(rng: &mut Rng, v: &Values, join: u8, kinds: &[u8], target: usize) -> Ve
         sum += length(&next) + (join == OR) as usize;
         leaves.push(next);
     }
+    in_a_row(rng, join, leaves)
+}
+
+/// All joined the same way, from the left or from the right.
+fn in_a_row(rng: &mut Rng, join: u8, mut leaves: Vec<Record>) -> Vec<Record> {
     let joins = vec![record(join); leaves.len() - 1];
     if rng.one_in(2) {
         return [joins, leaves].concat();

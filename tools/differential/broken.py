@@ -1,0 +1,622 @@
+"""Broken copies of the Rust, and of what stands beside it: what is wrong, the
+file, a text that it has once, and the text in its place."""
+
+# Document 01: "Wrong turns seen in such code".
+WRONG_TURNS = [
+    (
+        "ja has its full 32 bits",
+        "codegen",
+        "let off = Self::offset(i, target_idx)? as u32;",
+        "let off = (target_idx - i - 1) as u32;",
+    ),
+    (
+        "ports ready stays on the right of an or after X changed",
+        "codegen",
+        """// pre-established transport offset.
+                        self.facts.ports_ready = None;""",
+        "",
+    ),
+    (
+        "the fragment field is tested on IPv6, known from the facts",
+        "codegen",
+        """self.push(Insn::ldx_imm(40)); // IPv6 header is always 40 bytes
+                established""",
+        """self.push(Insn::ldh_abs(ip4_frag_off));
+                let i_frag = self.push(Insn::jset_k(0x1fff, 0xff, 0));
+                p.failure.push(Patch::Jt(i_frag));
+                self.push(Insn::ldx_imm(40));
+                established""",
+    ),
+    (
+        "the fragment field is tested on IPv6, in the prologue for both versions",
+        "codegen",
+        """self.push(Insn::ldx_imm(40)); // IPv6 header is always 40 bytes
+
+            // Both paths""",
+        """self.push(Insn::ldh_abs(ip4_frag_off));
+            let i_frag = self.push(Insn::jset_k(0x1fff, 0xff, 0));
+            p.failure.push(Patch::Jt(i_frag));
+            self.push(Insn::ldx_imm(40));
+
+            // Both paths""",
+    ),
+    (
+        "tests are hoisted out of not",
+        "codegen",
+        "Expr::Not(_) => done.push(GuardSet::default()),",
+        "Expr::Not(inner) => todo.push(Step::Visit(inner)),",
+    ),
+]
+
+# Document 01: "Worthless versions".
+WORTHLESS = [
+    (
+        "refuses all trees",
+        "codegen",
+        "let patches = cg.emit_expr(expr)?;",
+        """let patches = cg.emit_expr(expr)?;
+    if link == link {
+        return Err(Error::CodegenError {
+            message: "filter expression is too complex: BPF jump offset exceeds 255 instructions".into(),
+        });
+    }""",
+    ),
+    (
+        "one program for all trees",
+        "codegen",
+        "let mut insns = cg.insns;",
+        "let mut insns = cg.insns[accept_idx..].to_vec();",
+    ),
+    (
+        "zeroes the buffer only",
+        "codegen",
+        "let mut insns = cg.insns;",
+        """let mut insns = cg.insns;
+    insns.fill(Insn { code: 0, jt: 0, jf: 0, k: 0 });""",
+    ),
+    (
+        "tests the first condition, lets the rest through",
+        "codegen",
+        "let patches = cg.emit_expr(expr)?;",
+        """let mut first = expr;
+    while let Expr::And(left, _) | Expr::Or(left, _) | Expr::Not(left) = first {
+        first = left;
+    }
+    let patches = cg.emit_expr(first)?;""",
+    ),
+    (
+        "says short before a load",
+        "vm",
+        """let off = off as usize;
+    match size {""",
+        """let off = off as usize;
+    let pkt = &pkt[..pkt.len().saturating_sub(1)];
+    match size {""",
+    ),
+    (
+        "invents a step: fetches a return twice",
+        "vm",
+        """let mut pc = 0usize;
+
+    loop {
+        let insn = *insns.get(pc)?;
+        pc += 1;""",
+        """let mut pc = 0usize;
+    let mut again = true;
+
+    loop {
+        let insn = *insns.get(pc)?;
+        if again && insn.code & 0x07 == BPF_RET {
+            again = false;
+            continue;
+        }
+        pc += 1;""",
+    ),
+]
+
+# And, or, not: hoisting, facts, guards.
+JOINS = [
+    (
+        "ports are hoisted before the ethertype",
+        "codegen",
+        """let common = required_guards(left, memo).intersect(required_guards(right, memo));
+""",
+        """let mut common = required_guards(left, memo).intersect(required_guards(right, memo));
+        if let Some(set) = common.port_prereqs.take() {
+            hoist_failure.extend(self.emit_port_prereqs_set(set)?.failure);
+        }
+""",
+    ),
+    (
+        "the next header is not hoisted",
+        "codegen",
+        """if let Some(n) = common.ip6_nh {
+            hoist_failure""",
+        """if let Some(n) = common.ip6_nh.filter(|_| false) {
+            hoist_failure""",
+    ),
+    (
+        "RawIp hoists the ethertype too",
+        "codegen",
+        "if self.link.ether_proto_offset().is_some() {",
+        "if self.link.net_offset() < 20 {",
+    ),
+    (
+        "the failures of hoisted tests are forgotten",
+        "codegen",
+        "let failure = concat(right_p.failure, hoist_failure);",
+        "let failure = concat(right_p.failure, hoist_failure[..0].to_vec());",
+    ),
+    (
+        "an or requires what either side requires",
+        "codegen",
+        "_ => l.intersect(r),",
+        "_ => l.union(r),",
+    ),
+    (
+        "an and keeps the right one of two ethertypes",
+        "codegen",
+        "self.ethertype = self.ethertype.or(other.ethertype);",
+        "self.ethertype = other.ethertype.or(self.ethertype);",
+    ),
+    (
+        "ports of two sets are hoisted as their union",
+        "codegen",
+        "port_prereqs: both(self.port_prereqs, other.port_prereqs),",
+        "port_prereqs: self.port_prereqs.zip(other.port_prereqs).and_then(|(a, b)| L4Set::join(a, b)),",
+    ),
+    (
+        "after an or the left side's facts hold",
+        "codegen",
+        "self.facts = Facts::meet(&left_facts, &self.facts);",
+        "self.facts = left_facts;",
+    ),
+    (
+        "after an or the right side's facts hold",
+        "codegen",
+        "self.facts = Facts::meet(&left_facts, &self.facts);",
+        "let _ = &left_facts;",
+    ),
+    (
+        "meet keeps the left set of ports",
+        "codegen",
+        "(Some(x), Some(y)) => L4Set::join(x, y),",
+        "(Some(x), Some(_)) => Some(x),",
+    ),
+    (
+        "meet forgets ports of two sets",
+        "codegen",
+        "(Some(x), Some(y)) => L4Set::join(x, y),",
+        "(Some(x), Some(y)) if x == y => Some(x),",
+    ),
+    (
+        "not does not restore its entry facts",
+        "codegen",
+        "self.facts = entry_facts;",
+        "let _ = &entry_facts;",
+    ),
+    (
+        "ports ready stays after a not that changed X",
+        "codegen",
+        """self.facts = entry_facts;
+                    if self.x_writes != x_writes_before {
+                        self.facts.ports_ready = None;
+                    }""",
+        "self.facts = entry_facts;",
+    ),
+    (
+        "a fact that is there is filled again",
+        "codegen",
+        "if self.facts.ethertype.is_none() {",
+        "if self.facts.ethertype != Some(et) {",
+    ),
+    (
+        "the ja between the sides of an or leads to the drop",
+        "codegen",
+        """let mut success = left_success;
+                    success.push(Patch::Ja(ja_idx));""",
+        """let success = left_success;
+                    let mut hoist_failure = hoist_failure;
+                    hoist_failure.push(Patch::Ja(ja_idx));""",
+    ),
+]
+
+JUMPS = [
+    (
+        "jt is written to jf",
+        "codegen",
+        "self.insns[i].jt = Self::offset(i, target_idx)?;",
+        "self.insns[i].jf = Self::offset(i, target_idx)?;",
+    ),
+    (
+        "distances up to 256 are taken",
+        "codegen",
+        "if diff > 255 {",
+        "if diff > 256 {",
+    ),
+    (
+        "distances up to 254 are taken",
+        "codegen",
+        "if diff > 255 {",
+        "if diff > 254 {",
+    ),
+    (
+        "a distance counts from the jump itself",
+        "codegen",
+        "let diff = to - from - 1;",
+        "let diff = to - from;",
+    ),
+    (
+        "a far jump is met only at the end",
+        "codegen",
+        """// Left's failures now try the right branch.
+                    self.resolve_all(left_p.failure, right_start)?;""",
+        """let mut hoist_failure = hoist_failure;
+                    for p in left_p.failure {
+                        match p {
+                            Patch::Jt(i) | Patch::Jf(i) | Patch::Ja(i)
+                                if right_start - i > 256 =>
+                            {
+                                hoist_failure.push(p)
+                            }
+                            _ => self.resolve(p, right_start)?,
+                        }
+                    }""",
+    ),
+]
+
+CONDITIONS = [
+    (
+        "LinuxSll's network header starts at 14",
+        "codegen",
+        "LinkType::LinuxSll => 16,",
+        "LinkType::LinuxSll => 14,",
+    ),
+    (
+        "LinuxSll's ethertype is at 12",
+        "codegen",
+        "LinkType::LinuxSll => Some(14),",
+        "LinkType::LinuxSll => Some(12),",
+    ),
+    (
+        "RawIp starts with the ethertype 0x86dd",
+        "codegen",
+        "ethertype: (link == LinkType::RawIp).then_some(0x0800),",
+        "ethertype: (link == LinkType::RawIp).then_some(0x86dd),",
+    ),
+    (
+        "a prefix mask is off by a bit",
+        "codegen",
+        "let mask = (0xffffu32 << (16 - bits)) & 0xffff;",
+        "let mask = (0xffffu32 << (15 - bits)) & 0xffff;",
+    ),
+    (
+        "IPv6's destination is at 22",
+        "codegen",
+        """let dst_off = base + 24;
+        let segs = addr.segments();""",
+        """let dst_off = base + 22;
+        let segs = addr.segments();""",
+    ),
+    (
+        "a range leaves out its low end",
+        "codegen",
+        "cg.push(Insn::jge_k(lo as u32, 0, 0xff));",
+        "cg.push(Insn::jgt_k(lo as u32, 0, 0xff));",
+    ),
+    (
+        "ports without a protocol take SCTP",
+        "codegen",
+        "None => Ok(L4Set::TcpOrUdp),",
+        "None => Ok(L4Set::One(132)),",
+    ),
+    (
+        "Num 6 is a port protocol",
+        "codegen",
+        "Some(Proto::Tcp) => Ok(L4Set::One(6)),",
+        "Some(Proto::Tcp | Proto::Num(6)) => Ok(L4Set::One(6)),",
+    ),
+    (
+        "a pinned protocol does not narrow the set",
+        "codegen",
+        """Some(n) if want.contains(n) => L4Set::One(n),
+                    _ => {
+                        self.push(Insn::ldb_abs(ip4_proto_off));""",
+        """Some(n) if want.contains(n) => want,
+                    _ => {
+                        self.push(Insn::ldb_abs(ip4_proto_off));""",
+    ),
+    (
+        "Tcp's guards have no protocol",
+        "codegen",
+        "g.ip4_proto = Some(6);",
+        "g.ip4_proto = None;",
+    ),
+    (
+        "broadcast looks at the source",
+        "codegen",
+        """let dst_off = self.net_offset() + 16;
+        let q = self.check_word""",
+        """let dst_off = self.net_offset() + 12;
+        let q = self.check_word""",
+    ),
+    (
+        "accept returns 65,535",
+        "bpf",
+        "pub const BPF_ACCEPT: u32 = 0xffff_ffff;",
+        "pub const BPF_ACCEPT: u32 = 0xffff;",
+    ),
+]
+
+MACHINE = [
+    (
+        "a left shift is not masked",
+        "vm",
+        "BPF_LSH => a << (v & 31),",
+        "BPF_LSH => a.checked_shl(v).unwrap_or(0),",
+    ),
+    (
+        "a right shift is masked by 63",
+        "vm",
+        "BPF_RSH => a >> (v & 31),",
+        "BPF_RSH => a.checked_shr(v & 63).unwrap_or(0),",
+    ),
+    (
+        "division by zero drops",
+        "vm",
+        """if v == 0 {
+                            return None;""",
+        """if v == 0 {
+                            return Some(false);""",
+    ),
+    (
+        "the frame's end is tested before the size",
+        "vm",
+        """BPF_B => Some(*pkt.get(off)? as u32),
+        _ => None,""",
+        "_ => Some(*pkt.get(off)? as u32).filter(|_| size == BPF_B),",
+    ),
+    (
+        "size 0x18 loads a byte",
+        "vm",
+        """BPF_B => Some(*pkt.get(off)? as u32),
+        _ => None,""",
+        "_ => Some(*pkt.get(off)? as u32),",
+    ),
+    (
+        "X + k does not wrap",
+        "vm",
+        "x.wrapping_add(insn.k)",
+        "x.saturating_add(insn.k)",
+    ),
+    (
+        "sums stop at the highest",
+        "vm",
+        "BPF_ADD => a.wrapping_add(v),",
+        "BPF_ADD => a.saturating_add(v),",
+    ),
+    (
+        "products keep 31 bits",
+        "vm",
+        "BPF_MUL => a.wrapping_mul(v),",
+        "BPF_MUL => a.wrapping_mul(v) & 0x7fff_ffff,",
+    ),
+    (
+        "MOD is known",
+        "vm",
+        "BPF_XOR => a ^ v,",
+        """BPF_XOR => a ^ v,
+                    0x90 if v != 0 => a % v,""",
+    ),
+    (
+        "the X bit of a code is 0x10",
+        "vm",
+        "insn.code & 0x08 == BPF_X",
+        "insn.code & 0x10 != 0",
+    ),
+    (
+        "jgt is jge",
+        "vm",
+        "BPF_JGT => a > v,",
+        "BPF_JGT => a >= v,",
+    ),
+    (
+        "ja's distance has 16 bits",
+        "vm",
+        "pc = pc.wrapping_add(insn.k as usize);",
+        "pc = pc.wrapping_add(insn.k as u16 as usize);",
+    ),
+    (
+        "MSH goes with every size",
+        "vm",
+        "if size == BPF_B && mode == BPF_MSH {",
+        "if mode == BPF_MSH {",
+    ),
+    (
+        "MSH keeps the high half",
+        "vm",
+        "as u32 & 0xf)",
+        "as u32 >> 4)",
+    ),
+    (
+        "the high byte of a code counts",
+        "vm",
+        "match insn.code & 0x07 {",
+        "match insn.code & 0x8007 {",
+    ),
+    (
+        "a seventeenth scratch word",
+        "vm",
+        "const SCRATCH: usize = 16;",
+        "const SCRATCH: usize = 17;",
+    ),
+    (
+        "scratch words start as 1",
+        "vm",
+        "let mut scratch = [0u32; SCRATCH];",
+        "let mut scratch = [1u32; SCRATCH];",
+    ),
+    (
+        "a return looks at its low bits only",
+        "vm",
+        "return Some(retval != 0);",
+        "return Some(retval & 0xffff != 0);",
+    ),
+    (
+        "a word is little-endian",
+        "vm",
+        "Some(u32::from_be_bytes([b[0], b[1], b[2], b[3]]))",
+        "Some(u32::from_le_bytes([b[0], b[1], b[2], b[3]]))",
+    ),
+]
+
+# Document 01's own checks, which tools/oracle/answers.rs has beside the Rust.
+CHECKS = [
+    (
+        "every other link is LinuxSll",
+        "answers",
+        """3 => Ok(LinkType::LinuxSll),
+        _ => Err(1),""",
+        "_ => Ok(LinkType::LinuxSll),",
+    ),
+    (
+        "129 records are taken",
+        "answers",
+        "count > MAX_RECORDS",
+        "count > MAX_RECORDS + 1",
+    ),
+    (
+        "a file may be longer than its records",
+        "answers",
+        "file.len() != HEADER + RECORD * count",
+        "file.len() < HEADER + RECORD * count",
+    ),
+    (
+        "the last byte of a record is not looked at",
+        "answers",
+        "u.tail.contains(&i) || r[i] == 0",
+        "u.tail.contains(&i) || r[i] == 0 || i == 23",
+    ),
+    (
+        "byte 3 goes with every protocol",
+        "answers",
+        "u.protocol && (r[2] == 11 || r[2] == 12)",
+        "u.protocol",
+    ),
+    (
+        "Ip6Proto is not known",
+        "answers",
+        "r[2] <= 12 &&",
+        "r[2] <= 11 &&",
+    ),
+    (
+        "records after the tree are let through",
+        "answers",
+        """if open == 0 {
+            return false;
+        }""",
+        """if open == 0 {
+            return true;
+        }""",
+    ),
+    (
+        "2 comes before 1",
+        "answers",
+        "let link = link_of(file)?;",
+        """if file.len() >= HEADER {
+        records_of(file)?;
+    }
+    let link = link_of(file)?;""",
+    ),
+    (
+        "4 comes before 3",
+        "answers",
+        """if !records.iter().all(|r| good_record(r)) {
+        return Err(3);
+    }
+    if !one_tree(&records) {
+        return Err(4);
+    }""",
+        """if !one_tree(&records) {
+        return Err(4);
+    }
+    if !records.iter().all(|r| good_record(r)) {
+        return Err(3);
+    }""",
+    ),
+    (
+        "the first bad record is refused before a count that is wrong",
+        "answers",
+        "let records = records_of(file)?;",
+        """if !file[HEADER..].chunks_exact(RECORD).all(good_record) {
+        return Err(3);
+    }
+    let records = records_of(file)?;""",
+    ),
+    (
+        "a run tests 10 before 11",
+        "answers",
+        "if program.is_empty() ||",
+        """if frame.len() > MAX_FRAME {
+        return Err(10);
+    }
+    if program.is_empty() ||""",
+    ),
+    (
+        "frames of 65,536 bytes are run",
+        "answers",
+        "const MAX_FRAME: usize = 65_535;",
+        "const MAX_FRAME: usize = 65_536;",
+    ),
+    (
+        "programs of 32,776 bytes are run",
+        "answers",
+        "const MAX_PROGRAM: usize = 32_768;",
+        "const MAX_PROGRAM: usize = 32_776;",
+    ),
+]
+
+# What document 01 says of the lent buffer, which builds.rs has beside the Rust.
+BUFFER = [
+    (
+        "a buffer of exactly 8 bytes for an instruction is too short",
+        "builds",
+        "Ok(p) if p.len() > length => (9 << 16, &[]),",
+        "Ok(p) if p.len() >= length => (9 << 16, &[]),",
+    ),
+    (
+        "a byte less than 8 for an instruction is enough",
+        "builds",
+        "Ok(p) if p.len() > length => (9 << 16, &[]),",
+        "Ok(p) if p.len() > length + 1 => (9 << 16, &[]),",
+    ),
+    (
+        "the rest of the buffer stays as it was",
+        "builds",
+        "space.resize(MARGIN + length, 0);",
+        "space.resize(MARGIN + length, if number < 65536 { STALE } else { 0 });",
+    ),
+    (
+        "a refusal leaves the buffer as it was",
+        "builds",
+        "space.resize(MARGIN + length, 0);",
+        "space.resize(MARGIN + length, if number < 65536 { 0 } else { STALE });",
+    ),
+    (
+        "a byte behind the buffer is zeroed",
+        "builds",
+        "space.resize(MARGIN + length, 0);",
+        "space.resize(MARGIN + length + 1, 0);",
+    ),
+]
+
+GROUPS = [
+    ("wrong turns", WRONG_TURNS),
+    ("worthless versions", WORTHLESS),
+    ("joins", JOINS),
+    ("jumps", JUMPS),
+    ("conditions", CONDITIONS),
+    ("machine", MACHINE),
+    ("checks", CHECKS),
+    ("buffer", BUFFER),
+]

@@ -1,0 +1,341 @@
+//! Tree files through `pft_build` and through the published Rust: the answer and
+//! every byte of the buffer.
+
+use std::collections::{BTreeMap, HashMap};
+
+use crate::part::{to_hex, Part};
+use crate::trees::{self, edges, systematic, Rng};
+use crate::{exports, insn, shrink, Number, HEADER, INSN, MAX_PROGRAM, MAX_RECORDS, RECORD};
+
+/// Bytes before and after the lent part, and what the lent part holds before.
+const MARGIN: usize = 16;
+const CANARY: u8 = 0xC5;
+const STALE: u8 = 0x5A;
+
+/// What the Rust says of a file: the program's bytes, or the refusal.
+type Answer = Result<Vec<u8>, Number>;
+
+fn rust_answer(file: &[u8]) -> Answer {
+    let insns = crate::build(file)?;
+    Ok(insns.iter().flat_map(|i| i.to_le_bytes()).collect())
+}
+
+// ── One call ─────────────────────────────────────────────────────────────────
+
+/// The answer that a lent buffer of a length must give, and its bytes after.
+fn wanted(answer: &Answer, length: usize) -> (u32, Vec<u8>) {
+    let (number, program): (u32, &[u8]) = match answer {
+        Err(n) => (n << 16, &[]),
+        Ok(p) if p.len() > length => (9 << 16, &[]),
+        Ok(p) => ((p.len() / INSN) as u32, p),
+    };
+    let mut space = vec![CANARY; MARGIN];
+    space.extend(program);
+    space.resize(MARGIN + length, 0);
+    space.resize(length + 2 * MARGIN, CANARY);
+    (number, space)
+}
+
+fn got(file: &[u8], length: usize) -> (u32, Vec<u8>) {
+    let mut space = vec![CANARY; length + 2 * MARGIN];
+    let lent = &mut space[MARGIN..MARGIN + length];
+    lent.fill(STALE);
+    let number = exports::build(file, lent);
+    (number, space)
+}
+
+/// Exact, longer, one byte short and empty; at times as long as a program may be.
+fn lengths(rng: &mut Rng, answer: &Answer) -> Vec<usize> {
+    let exact = match answer {
+        Ok(program) => program.len(),
+        Err(_) => rng.between(1, 600),
+    };
+    let mut all = vec![exact, exact + rng.between(1, 64), exact - 1, 0];
+    if rng.below(16) == 0 {
+        all.push(rng.pick(&[MAX_PROGRAM, MAX_PROGRAM + 8, 40_000]));
+        all.push(rng.below(exact));
+    }
+    all
+}
+
+// ── What was met ─────────────────────────────────────────────────────────────
+
+pub struct Met {
+    pub part: Part,
+    calls: u64,
+    /// Calls that answered 9.
+    short: u64,
+    /// Accepted, then by refusal.
+    answers: [u64; 9],
+    /// Files that are one tree, and those accepted, by link, kind, direction and
+    /// protocol of a condition.
+    conditions: HashMap<[u8; 4], [u64; 2]>,
+    /// Accepted trees of 127 or 128 records.
+    large: u64,
+    instructions: usize,
+    /// Accepted trees by their longest jump, and by the longest of jt, jf and ja.
+    longest: Vec<u64>,
+    by_field: [Vec<u64>; 3],
+    /// Files made to pass the limit: by how many instructions they do.
+    passed: [u64; 2],
+    /// Files with these faults, by the refusal.
+    faults: BTreeMap<Vec<u32>, [u64; 9]>,
+}
+
+/// The longest way that a program's jt, jf and ja go.
+fn distances(program: &[u8]) -> [u32; 3] {
+    let mut most = [0; 3];
+    for b in program.chunks_exact(INSN) {
+        let ja = if b[0] == 0x05 { insn(b).k } else { 0 };
+        for (most, way) in most.iter_mut().zip([b[2] as u32, b[3] as u32, ja]) {
+            *most = way.max(*most);
+        }
+    }
+    most
+}
+
+impl Met {
+    fn new() -> Met {
+        let none = || vec![0; 256];
+        Met {
+            part: Part::new("builds"),
+            calls: 0,
+            short: 0,
+            answers: [0; 9],
+            conditions: HashMap::new(),
+            large: 0,
+            instructions: 0,
+            longest: none(),
+            by_field: [none(), none(), none()],
+            passed: [0; 2],
+            faults: BTreeMap::new(),
+        }
+    }
+
+    fn note(&mut self, file: &[u8], answer: &Answer) {
+        self.part.compared += 1;
+        if !matches!(answer, Err(1..=4)) {
+            self.note_conditions(file, answer.is_ok());
+        }
+        match answer {
+            Err(n) => self.answers[*n as usize] += 1,
+            Ok(program) => self.note_accepted(file, program),
+        }
+    }
+
+    fn note_conditions(&mut self, file: &[u8], accepted: bool) {
+        for r in file[HEADER..].chunks_exact(RECORD).filter(|r| r[0] >= 10) {
+            let counts = self
+                .conditions
+                .entry([file[5], r[0], r[1], r[2]])
+                .or_default();
+            counts[0] += 1;
+            counts[1] += accepted as u64;
+        }
+    }
+
+    fn note_accepted(&mut self, file: &[u8], program: &[u8]) {
+        self.answers[0] += 1;
+        self.large += (file.len() / RECORD >= MAX_RECORDS - 1) as u64;
+        self.instructions = self.instructions.max(program.len() / INSN);
+        let ways = distances(program).map(|way| way.min(255) as usize);
+        self.longest[*ways.iter().max().expect("three")] += 1;
+        for (field, way) in self.by_field.iter_mut().zip(ways) {
+            field[way] += 1;
+        }
+    }
+
+    pub fn print(&self) {
+        println!("accepted: {}", self.answers[0]);
+        for (n, count) in self.answers.iter().enumerate().skip(1) {
+            println!("refused {n}: {count}");
+        }
+        println!(
+            "refused 9: {} of {} calls of pft_build",
+            self.short, self.calls
+        );
+        println!(
+            "accepted trees of 127 or 128 records: {}, instructions up to {}",
+            self.large, self.instructions
+        );
+        self.print_conditions();
+        self.print_jumps();
+        self.print_faults();
+    }
+
+    /// There are 429 conditions in all, and 193 that can be accepted.
+    fn print_conditions(&self) {
+        let counts = || {
+            self.conditions
+                .values()
+                .map(|[_, accepted]| *accepted)
+                .filter(|n| *n > 0)
+        };
+        println!(
+            "conditions by link, kind, direction, protocol: {} in one tree, {} in accepted trees, the rarest {} times",
+            self.conditions.len(),
+            counts().count(),
+            counts().min().unwrap_or(0)
+        );
+    }
+
+    fn print_jumps(&self) {
+        let some = |of: &[u64]| {
+            let each: Vec<String> = (252..256)
+                .map(|way| format!("{way}: {}", of[way]))
+                .collect();
+            each.join(", ")
+        };
+        println!("longest jump: {}", some(&self.longest));
+        for (name, field) in ["jt", "jf", "ja"].iter().zip(&self.by_field) {
+            println!("longest {name}: {}", some(field));
+        }
+        println!(
+            "refused 8 at 256: {}, at 257: {}",
+            self.passed[0], self.passed[1]
+        );
+    }
+
+    fn print_faults(&self) {
+        let files: u64 = self.faults.values().flatten().sum();
+        println!(
+            "files with two or three faults: {files}, {} sets of faults",
+            self.faults.len()
+        );
+        for (faults, answers) in self.faults.iter().filter(|(faults, _)| faults[0] >= 5) {
+            let each: Vec<String> = faults
+                .iter()
+                .map(|n| format!("{n}: {}", answers[*n as usize]))
+                .collect();
+            println!("faults {faults:?}, met first {}", each.join(", "));
+        }
+    }
+}
+
+// ── The comparison ───────────────────────────────────────────────────────────
+
+/// Compares every buffer of one file; counts one difference at most.
+fn compare(file: &[u8], answer: &Answer, sizes: &mut Rng, met: &mut Met) {
+    met.note(file, answer);
+    for length in lengths(sizes, answer) {
+        met.calls += 1;
+        met.short += answer.as_ref().is_ok_and(|p| p.len() > length) as u64;
+        if let Some(words) = difference(file, answer, length) {
+            met.part.differs(file.len(), || {
+                let least = shrink::tree(file, |f| any_difference(f).is_some());
+                any_difference(&least).unwrap_or(words)
+            });
+            return;
+        }
+    }
+}
+
+/// How a buffer of a length differs.
+fn difference(file: &[u8], answer: &Answer, length: usize) -> Option<String> {
+    let (here, there) = (got(file, length), wanted(answer, length));
+    if here == there {
+        return None;
+    }
+    let mut bytes = here.1.iter().zip(&there.1);
+    let place = bytes.position(|(a, b)| a != b).unwrap_or(0) as i64 - MARGIN as i64;
+    let (here, there, tree) = (shown(here.0), shown(there.0), to_hex(file));
+    let place = if here == there {
+        format!(" with another byte {place}")
+    } else {
+        String::new()
+    };
+    Some(format!(
+        "buffer of {length}: pft_build {here}, the Rust {there}{place}, tree {tree}"
+    ))
+}
+
+/// The same for the exact length, more, less and none.
+fn any_difference(file: &[u8]) -> Option<String> {
+    let answer = rust_answer(file);
+    let exact = answer.as_ref().map_or(600, Vec::len);
+    let mut lengths = [exact, exact + 9, exact - 1, 0].into_iter();
+    lengths.find_map(|length| difference(file, &answer, length))
+}
+
+fn compare_file(file: &[u8], sizes: &mut Rng, met: &mut Met) {
+    compare(file, &rust_answer(file), sizes, met);
+}
+
+fn shown(number: u32) -> String {
+    match number >> 16 {
+        0 => format!("count {number}"),
+        n => format!("refused {n}"),
+    }
+}
+
+/// Files around the limit of 255, and how far beyond it they are.
+fn compare_tuned(rng: &mut Rng, sizes: &mut Rng, met: &mut Met) -> u64 {
+    let files = edges::tuned(rng);
+    let mut at_limit = false;
+    let mut beyond = 0;
+    for file in &files {
+        let answer = rust_answer(file);
+        compare(file, &answer, sizes, met);
+        match answer {
+            Ok(program) => at_limit = distances(&program).contains(&255),
+            Err(_) if at_limit => {
+                met.passed[beyond] += 1;
+                beyond += 1;
+            }
+            Err(_) => (),
+        }
+    }
+    files.len() as u64
+}
+
+/// A file with several faults; the refusal has to be one that they allow.
+fn compare_faulty(rng: &mut Rng, sizes: &mut Rng, met: &mut Met) {
+    let faulty = edges::faulty(rng);
+    let answer = rust_answer(&faulty.file);
+    compare(&faulty.file, &answer, sizes, met);
+    let refusal = answer.err();
+    if !faulty.fits(refusal) {
+        met.part.differs(faulty.file.len(), || {
+            format!(
+                "faults {:?}, the Rust {refusal:?}, tree {}",
+                faulty.faults,
+                to_hex(&faulty.file)
+            )
+        });
+    }
+    let answers = met.faults.entry(faulty.faults).or_default();
+    answers[refusal.unwrap_or(0) as usize] += 1;
+}
+
+/// Files without a draw.
+fn compare_systematic(sizes: &mut Rng, met: &mut Met) {
+    let nots = (1..=3).flat_map(|link| (0..MAX_RECORDS).map(move |n| trees::nots(link, n)));
+    let headers = systematic::headers()
+        .chain(systematic::lengths())
+        .chain(systematic::counts());
+    let records = systematic::record_bytes().chain(systematic::pairs());
+    for file in nots.chain(headers).chain(records) {
+        compare_file(&file, sizes, met);
+    }
+}
+
+/// So many random files, then the systematic ones.
+pub fn compare_all(seed: u64, count: u64) -> Met {
+    let (mut rng, mut edge, mut sizes) = (Rng(seed), Rng(seed ^ 0xED6E), Rng(!seed));
+    let mut met = Met::new();
+    for _ in 0..count / 2 {
+        compare_file(&trees::tree_file(&mut rng), &mut sizes, &mut met);
+    }
+    for _ in 0..count / 4 {
+        compare_faulty(&mut edge, &mut sizes, &mut met);
+    }
+    for _ in 0..count / 8 {
+        compare_file(&edges::junk(&mut edge), &mut sizes, &mut met);
+    }
+    let mut made = 0;
+    while made < count / 8 {
+        made += 1 + compare_tuned(&mut edge, &mut sizes, &mut met);
+    }
+    compare_systematic(&mut sizes, &mut met);
+    met
+}
