@@ -1,4 +1,8 @@
-// The refusals, in the order of document 01's table.
+// The refusals, in the order of document 01's table, and their numbers.
+ghost use mathlib.Core.Path.{_≡_};
+ghost use Prim.Native.Nat.{_≤_};
+ghost use Rattle.error.specs.Answer.{numberOf};
+
 pub enum Refusal {
     StrangeFile,
     WrongCount,
@@ -11,4 +15,22 @@ pub enum Refusal {
     ShortBuffer,
     LongFrame,
     OddProgram,
+}
+
+pub fn refusal_number(refusal: Refusal) -> u32
+    ensures { λ r. ⌜ (r ≡ numberOf refusal) × (r ≤ 11) ⌝ }
+{
+    match refusal {
+        Refusal::StrangeFile => 1,
+        Refusal::WrongCount => 2,
+        Refusal::BadRecord => 3,
+        Refusal::NotOneTree => 4,
+        Refusal::KindOnRaw => 5,
+        Refusal::PortProtocol => 6,
+        Refusal::EtherOnRaw => 7,
+        Refusal::FarJump => 8,
+        Refusal::ShortBuffer => 9,
+        Refusal::LongFrame => 10,
+        Refusal::OddProgram => 11,
+    }
 }

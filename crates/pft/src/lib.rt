@@ -3,9 +3,10 @@ use ast::LinkType;
 use compile::Compiled;
 use direct::DirectResult;
 use error::Refusal;
+use error::refusal_number;
 use reader::Checked;
 use vm::RunResult;
-use vm::Verdict;
+use vm::verdict_number;
 ghost use mathlib.Core.Path.{_≡_};
 ghost use mathlib.Core.Bool.{cond};
 ghost use Prim.Native.Nat.{_≤_};
@@ -26,35 +27,6 @@ pub enum BuildResult {
 }
 
 // ---- answers as numbers
-
-fn verdict_number(v: Verdict) -> u32
-    ensures { λ r. ⌜ (r ≡ M.numberOfVerdict v) × (r ≤ 4) ⌝ }
-{
-    match v {
-        Verdict::Accepted => 1,
-        Verdict::Dropped => 2,
-        Verdict::Short => 3,
-        Verdict::Broken => 4,
-    }
-}
-
-fn refusal_number(refusal: Refusal) -> u32
-    ensures { λ r. ⌜ (r ≡ numberOf refusal) × (r ≤ 11) ⌝ }
-{
-    match refusal {
-        Refusal::StrangeFile => 1,
-        Refusal::WrongCount => 2,
-        Refusal::BadRecord => 3,
-        Refusal::NotOneTree => 4,
-        Refusal::KindOnRaw => 5,
-        Refusal::PortProtocol => 6,
-        Refusal::EtherOnRaw => 7,
-        Refusal::FarJump => 8,
-        Refusal::ShortBuffer => 9,
-        Refusal::LongFrame => 10,
-        Refusal::OddProgram => 11,
-    }
-}
 
 fn truth(b: bool) -> u32
     ensures { λ r. ⌜ r ≡ cond b 1 0 ⌝ }

@@ -1,5 +1,8 @@
 // The classic BPF machine's types: vm.rs.
 use error::Refusal;
+ghost use mathlib.Core.Path.{_≡_};
+ghost use Prim.Native.Nat.{_≤_};
+ghost use Rattle.vm.specs.Machine.{numberOfVerdict};
 
 pub enum Verdict {
     Accepted,
@@ -26,4 +29,15 @@ pub enum Effect {
     Store(u32, u32),
     Skip(u32),
     Stop(Verdict),
+}
+
+pub fn verdict_number(v: Verdict) -> u32
+    ensures { λ r. ⌜ (r ≡ numberOfVerdict v) × (r ≤ 4) ⌝ }
+{
+    match v {
+        Verdict::Accepted => 1,
+        Verdict::Dropped => 2,
+        Verdict::Short => 3,
+        Verdict::Broken => 4,
+    }
 }

@@ -10,21 +10,21 @@
 //   6-7    how many bytes of the program are stored
 //   8-9    how many zeros follow the program's stored bytes
 //   10-11  how many zeros follow the frame's
-use error::Refusal;
+use error::refusal_number;
 use libc::STDIN_FILENO;
 use libc::STDOUT_FILENO;
 use vm::RunResult;
 use vm::Verdict;
+use vm::verdict_number;
 ghost use Prim.Native.Nat.{_≤_, _<_};
 ghost use mathlib.Core.Path.{_≡_};
-ghost use Rattle.error.specs.Answer.{numberOf};
-ghost use Rattle.vm.specs.Machine.{numberOfVerdict, refusalOf, verdictOf, stepsOf};
+ghost use Rattle.vm.specs.Machine.{refusalOf, verdictOf, stepsOf};
 
 // What a run says, in the numbers of a case.
 struct Said {
-    refusal: u8,
+    refusal: u32,
     answer: u8,
-    verdict: u8,
+    verdict: u32,
     steps: u32,
 }
 
@@ -46,35 +46,6 @@ struct Tally {
 }
 
 // ---- the run's answer in numbers
-
-fn refusal_number(r: Refusal) -> u8
-    ensures { λ n. ⌜ n ≡ numberOf r ⌝ }
-{
-    match r {
-        Refusal::StrangeFile => 1,
-        Refusal::WrongCount => 2,
-        Refusal::BadRecord => 3,
-        Refusal::NotOneTree => 4,
-        Refusal::KindOnRaw => 5,
-        Refusal::PortProtocol => 6,
-        Refusal::EtherOnRaw => 7,
-        Refusal::FarJump => 8,
-        Refusal::ShortBuffer => 9,
-        Refusal::LongFrame => 10,
-        Refusal::OddProgram => 11,
-    }
-}
-
-fn verdict_number(v: Verdict) -> u8
-    ensures { λ n. ⌜ n ≡ numberOfVerdict v ⌝ }
-{
-    match v {
-        Verdict::Accepted => 1,
-        Verdict::Dropped => 2,
-        Verdict::Short => 3,
-        Verdict::Broken => 4,
-    }
-}
 
 // "Rust's None is short or broken."
 fn answer_number(v: Verdict) -> u8 {
@@ -131,9 +102,9 @@ fn size_of(stored: u32, zeros: u32) -> Size
 fn case_of(h: &[u8; 12]) -> Case {
     Case {
         said: Said {
-            refusal: h[2],
+            refusal: half(0, h[2]),
             answer: h[0],
-            verdict: h[1],
+            verdict: half(0, h[1]),
             steps: half(h[4], h[5]),
         },
         program: size_of(half(h[6], h[7]), half(h[8], h[9])),
