@@ -62,8 +62,8 @@ enum pft_verdict {
 #define PFT_RUN_MAX ((size_t)32768)
 
 /*
- * The stack that a call may take, in bytes. Measured: a build 54,720 for one record and 177,272
- * for 127 nots over one, which is the deepest tree; a direct reading 24,744; a run below 300.
+ * The stack that a call may take, in bytes. Measured: a build 57,100 for one record and 146,400
+ * for 127 nots over one, which is the deepest tree; a direct reading 24,700; a run below 600.
  */
 #define PFT_STACK ((size_t)262144)
 
