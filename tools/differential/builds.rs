@@ -270,7 +270,7 @@ fn shown(number: u32) -> String {
 
 /// Files around the limit of 255, and how far beyond it they are.
 fn compare_tuned(rng: &mut Rng, sizes: &mut Rng, met: &mut Met) -> u64 {
-    let files = edges::tuned(rng);
+    let files = edges::tuned(rng, |file| crate::build(file).err());
     let mut at_limit = false;
     let mut beyond = 0;
     for file in &files {

@@ -102,9 +102,9 @@ impl Tuned {
         )
     }
 
-    /// The fewest nots with which the Rust refuses with 8.
-    fn first_far(&self) -> Option<usize> {
-        let far = |nots| crate::build(&self.file(nots)).err() == Some(8);
+    /// The fewest nots with which the build is refused with 8.
+    fn first_far(&self, refusal: impl Fn(&[u8]) -> Option<u32>) -> Option<usize> {
+        let far = |nots| refusal(&self.file(nots)) == Some(8);
         let (mut low, mut high) = (0, self.room());
         if far(low) || !far(high) {
             return None;
@@ -122,10 +122,11 @@ pub fn file_of(link: u8, records: &[Record]) -> Vec<u8> {
 }
 
 /// Files of one tree that grows by an instruction: two that are taken and two
-/// that are not, where there is room for as many.
-pub fn tuned(rng: &mut Rng) -> Vec<Vec<u8>> {
+/// that are not, where there is room for as many. `refusal` says with what number
+/// the Rust refuses a file.
+pub fn tuned(rng: &mut Rng, refusal: impl Fn(&[u8]) -> Option<u32>) -> Vec<Vec<u8>> {
     let tuned = Tuned::new(rng);
-    let Some(first) = tuned.first_far() else {
+    let Some(first) = tuned.first_far(refusal) else {
         return Vec::new();
     };
     let last = (first + 1).min(tuned.room());

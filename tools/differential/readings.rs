@@ -279,7 +279,7 @@ pub fn compare_all(seed: u64, count: u64) -> Met {
             break;
         }
         let files = match rng.below(16) {
-            0 => edges::tuned(&mut rng),
+            0 => edges::tuned(&mut rng, |file| crate::build(file).err()),
             1 => vec![edges::junk(&mut rng)],
             2 => vec![edges::faulty(&mut rng).file],
             _ => vec![trees::tree_file(&mut rng)],
