@@ -270,7 +270,7 @@ fn misc(bit: u32, a: u32, x: u32) -> Effect
 }
 
 // What an instruction with this low byte in its code does, by its class.
-fn effect_of(
+fn by_class(
     frame: &[u8],
     scratch: &[u32; 16],
     low: u32,
@@ -294,6 +294,31 @@ fn effect_of(
         5 => jmp(low / 16 % 16, jt, jf, k, a, v),
         6 => ret(choose(low / 16 % 2, k, a)),
         _ => misc(low / 128 % 2, a, x),
+    }
+}
+
+// The codes that the second loop meets most, in one table; all others by their class.
+fn effect_of(
+    frame: &[u8],
+    scratch: &[u32; 16],
+    low: u32,
+    jt: u8,
+    jf: u8,
+    k: u32,
+    a: u32,
+    x: u32,
+) -> Effect
+    requires { ⌜ length (now frame) ≤ 65535 ⌝ }
+    ensures { λ r. ⌜ r ≡ M.effect (now (frame .entry)) (now (scratch .entry)) (insn low jt jf k) a x ⌝ }
+{
+    match low {
+        0x02 => Effect::Store(k, a),
+        0x03 => Effect::Store(k, x),
+        0x07 => Effect::SetX(a),
+        0x60 => scratch_a(scratch, k),
+        0x61 => scratch_x(scratch, k),
+        0x87 => Effect::SetA(x),
+        _ => by_class(frame, scratch, low, jt, jf, k, a, x),
     }
 }
 
