@@ -20,7 +20,7 @@ use Rattle.codegen.specs.declared.Ports.the-variants.{NotReady}
 use Rattle.codegen.specs.declared.Facts.{Facts}
 use Rattle.codegen.specs.Facts.{readySet, contains, subsetOf, sameSet, join, fill, both, joinPorts, learnEthertype, learnIp4, learnIp6, restored, meet}
 use Rattle.codegen.specs.Emit.{netOffset}
-use Rattle.codegen.proofs.KnownLaws.{Says, SaysPorts, says-ready, two-left, two-right, says-fill, says-left, says-right, sameSet-eq}
+use Rattle.codegen.proofs.KnownLaws.{Says, SaysPorts, says-ready, of-two, says-fill, says-left, says-right, sameSet-eq}
 
 -- ---- Bool
 
@@ -67,10 +67,10 @@ join-passes q g a b s same sub h =
     (λ n. cases (λ k. SaysPorts (readySet k) (Passes q)) (subsetOf a TcpOrUdp && subsetOf b TcpOrUdp) (λ e. g s TcpOrUdp (sub e) h) (λ e. tt))
 
 pub join-left : (q : L4Set → Bool) → Grows q → (k l : Ports) → SaysPorts (readySet k) (Passes q) → SaysPorts (readySet (joinPorts k l)) (Passes q)
-join-left q g k l = two-left join (Passes q) (λ a b h. join-passes q g a b a (λ e. h) (and-left (subsetOf a TcpOrUdp) (subsetOf b TcpOrUdp)) h) (readySet k) (readySet l)
+join-left q g k l = of-two join (Passes q) (λ k l. SaysPorts k (Passes q)) (λ a b h. join-passes q g a b a (λ e. h) (and-left (subsetOf a TcpOrUdp) (subsetOf b TcpOrUdp)) h) (readySet k) (readySet l)
 
 pub join-right : (q : L4Set → Bool) → Grows q → (k l : Ports) → SaysPorts (readySet l) (Passes q) → SaysPorts (readySet (joinPorts k l)) (Passes q)
-join-right q g k l = two-right join (Passes q) (λ a b h. join-passes q g a b b (λ e. rw (sameSet-eq a b e) h) (and-right (subsetOf a TcpOrUdp) (subsetOf b TcpOrUdp)) h) (readySet k) (readySet l)
+join-right q g k l = of-two join (Passes q) (λ k l. SaysPorts l (Passes q)) (λ a b h. join-passes q g a b b (λ e. rw (sameSet-eq a b e) h) (and-right (subsetOf a TcpOrUdp) (subsetOf b TcpOrUdp)) h) (readySet k) (readySet l)
 
 -- ---- RawIp keeps the ethertype 0x0800 with which it starts
 

@@ -60,24 +60,18 @@ ports-or NotReady l q h j = j
 ports-or (ReadyOne n) l q h j = h
 ports-or ReadyTcpOrUdp l q h j = h
 
--- what is made of two sets says what each of them does, if that holds of every two
-pub two-left : (f : L4Set → L4Set → Ports) (q : L4Set → Type 0) → ((a b : L4Set) → q a → SaysPorts (readySet (f a b)) q)
-    → (k l : Option L4Set) → SaysPorts k q → SaysPorts (readySet (ofTwo f k l)) q
-two-left f q w none l h = tt
-two-left f q w (some a) none h = tt
-two-left f q w (some a) (some b) h = w a b h
-
-pub two-right : (f : L4Set → L4Set → Ports) (q : L4Set → Type 0) → ((a b : L4Set) → q b → SaysPorts (readySet (f a b)) q)
-    → (k l : Option L4Set) → SaysPorts l q → SaysPorts (readySet (ofTwo f k l)) q
-two-right f q w none l h = tt
-two-right f q w (some a) none h = tt
-two-right f q w (some a) (some b) h = w a b h
+-- what is made of two sets says q where r holds of them, if that is so of every two
+pub of-two : (f : L4Set → L4Set → Ports) (q : L4Set → Type 0) (r : Option L4Set → Option L4Set → Type 0) → ((a b : L4Set) → r (some a) (some b) → SaysPorts (readySet (f a b)) q)
+    → (k l : Option L4Set) → r k l → SaysPorts (readySet (ofTwo f k l)) q
+of-two f q r w none l h = tt
+of-two f q r w (some a) none h = tt
+of-two f q r w (some a) (some b) h = w a b h
 
 ports-left : (k l : Ports) (q : L4Set → Type 0) → SaysPorts (readySet k) q → SaysPorts (readySet (bothPorts k l)) q
-ports-left k l q = two-left _ q (λ a b h. either (λ p. SaysPorts (readySet p) q) (sameSet a b) (says-ready a q h) tt) (readySet k) (readySet l)
+ports-left k l q = of-two _ q (λ k l. SaysPorts k q) (λ a b h. either (λ p. SaysPorts (readySet p) q) (sameSet a b) (says-ready a q h) tt) (readySet k) (readySet l)
 
 ports-right : (k l : Ports) (q : L4Set → Type 0) → SaysPorts (readySet l) q → SaysPorts (readySet (bothPorts k l)) q
-ports-right k l q = two-right _ q (λ a b h. cases (λ p. SaysPorts (readySet p) q) (sameSet a b) (λ e. says-ready a q (rw (sameSet-eq a b e) h)) (λ e. tt)) (readySet k) (readySet l)
+ports-right k l q = of-two _ q (λ k l. SaysPorts l q) (λ a b h. cases (λ p. SaysPorts (readySet p) q) (sameSet a b) (λ e. says-ready a q (rw (sameSet-eq a b e) h)) (λ e. tt)) (readySet k) (readySet l)
 
 -- ---- guards
 

@@ -29,12 +29,12 @@ sameSet (One a) TcpOrUdp = false
 sameSet TcpOrUdp (One b) = false
 sameSet TcpOrUdp TcpOrUdp = true
 
--- ready for a set
+-- "ports ready" for a set: codegen.rs `Some(set)`
 abbrev pub ready : L4Set → Ports
 ready (One n) = ReadyOne n
 ready TcpOrUdp = ReadyTcpOrUdp
 
--- the set, if there is one
+-- the set, if there is one: codegen.rs `Option<L4Set>`
 abbrev pub readySet : Ports → Option L4Set
 readySet NotReady = none
 readySet (ReadyOne n) = some (One n)

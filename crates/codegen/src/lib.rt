@@ -12,8 +12,8 @@ pub enum Known {
     Is(u32),
 }
 
-// A port prologue that has passed, or that is required, for a set: codegen.rs `Option<L4Set>`, in one enum (an enum within an enum is
-// copied through memory byte by byte).
+// A port prologue that has passed, or that is required, for a set: codegen.rs `Option<L4Set>` as one enum, since an enum within an enum is
+// slow to copy.
 pub enum Ports {
     NotReady,
     ReadyOne(u32),

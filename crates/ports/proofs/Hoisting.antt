@@ -119,7 +119,7 @@ dual-parts off n d (One p) e = rw e
 dual-parts off n d TcpOrUdp e = rw e
 
 module _ {I N I′ N′ : List ℕ} {s : Patches} where
-  made-failure : {c : Code} {t : Patches} {g : Facts} → PutFailure (c .block) I N s I′ N′ t → g ≡ c .facts
+  pub made-failure : {c : Code} {t : Patches} {g : Facts} → PutFailure (c .block) I N s I′ N′ t → g ≡ c .facts
       → MadeFailure c I N s I′ N′ (record { patches = t; facts = g })
   made-failure h e = record { made = λ Y. record { grew = h .grew Y; facts = e } }
 
@@ -145,10 +145,6 @@ module _ (learn : Facts → ℕ → Facts) (g : Facts) (k : Known) (at : ℕ) (w
     pub pinned-unknown : k ≡ Unknown → PutFailure (l4Check at want ++ header) I N s I′ N′ t → Learns learn g want h
         → MadeFailure (established learn g (pinned k at want header)) I N s I′ N′ (record { patches = t; facts = h })
     pinned-unknown e b f = rw e (made-failure b f)
-
-    pub narrowed-to : PutFailure (l4Check at want) I N s I′ N′ t → Learns learn g want h
-        → MadeFailure (established learn g (record { block = l4Check at want; set = want })) I N s I′ N′ (record { patches = t; facts = h })
-    narrowed-to b f = made-failure b f
 
   pub narrowed : (r : Option L4Set) {have : L4Set} {e : Emitted} → r ≡ some have → MadeFailure (established learn g (record { block = l4Check at want; set = want })) I N s I′ N′ e
       → MadeFailure (established learn g (version r k at want header)) I N s I′ N′ e

@@ -6,9 +6,7 @@ use Rattle.ports.proofs.narrowed.Lts as lts
 use Rattle.conditions.proofs.proto_place.Reads as proto-place-reads
 use Rattle.ports.proofs.established.Reads as established-reads
 use Rattle.ports.proofs.l4_check.Reads as l4-check-reads
-use Rattle.ports.proofs.Hoisting.{narrowed-to}
-use Prim.Native.Nat.{_+_}
-use Rattle.conditions.specs.Loads.{protoPlace, protoFact, learnProto, header}
+use Rattle.ports.proofs.Hoisting.{made-failure}
 
 proto-place-requires : tie.Need-proto-place-requires
 proto-place-requires c κs = search needs
@@ -29,7 +27,7 @@ same-length-2 : tie.Need-same-length-2
 same-length-2 c = search needs
 
 returns : tie.Need-returns
-returns c = let a = c .before .before .before .before .before .before .before .before .before .before .before .args in let v = a .version in narrowed-to (learnProto v) (a .facts) (protoFact v (a .facts)) (a .n + protoPlace v) (a .want) (header v (a .n)) (rw (c .before .before .before .before .before .before .proto-place .ensures .0) at (c .before .before .before .before .before .l4-check .ensures)) (c .established .ensures)
+returns c = made-failure (rw (c .before .before .before .before .before .before .proto-place .ensures .0) at (c .before .before .before .before .before .l4-check .ensures)) (c .established .ensures)
 
 pub narrowed-spec : {M : Type 1} → statement M
 narrowed-spec =
