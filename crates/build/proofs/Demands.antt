@@ -36,10 +36,10 @@ use Rattle.codegen.proofs.Conditions.{start}
 use Rattle.codegen.proofs.Refusals.{compile-turned}
 use Rattle.codegen.proofs.Sound.{Sound, compile-sound}
 use Rattle.codegen.proofs.Tells.{Tells, compile-tells}
-use Rattle.pft.specs.declared.BuildResult.{BuildResult}
-use Rattle.pft.specs.declared.BuildResult.the-variants.{Count, Refused}
-use Rattle.pft.specs.Build.{rejected, placed, tooShort, into, program, build}
-use Rattle.pft.specs.Demands.{Answers, programOf, Frame, Begins, Gets, ReadsPast, Demand1, Decided, Demand3, Demands}
+use Rattle.build.specs.declared.BuildResult.{BuildResult}
+use Rattle.build.specs.declared.BuildResult.the-variants.{Count, Refused}
+use Rattle.build.specs.Build.{rejected, placed, tooShort, into, program, build}
+use Rattle.build.specs.Demands.{Answers, programOf, Frame, Begins, Gets, ReadsPast, Demand1, Decided, Demand3, Demands}
 
 -- ---- a file's program
 

@@ -20,7 +20,7 @@ use Rattle.codegen.specs.Guards.{primitiveGuards, requiredGuards}
 use Rattle.codegen.specs.Block.{settle, turn, otherwise, far, writesX, assemble}
 use Rattle.codegen.specs.Emit as E
 use Rattle.codegen.specs.Compile.{finished, compile}
-use Rattle.pft.specs.Build.{Built, program, build, listing, refusalOf, countOf}
+use Rattle.build.specs.Build.{Built, program, build, listing, refusalOf, countOf}
 
 -- ---- tree files
 

@@ -21,8 +21,8 @@ use Rattle.ast.specs.File.{header}
 use Rattle.direct.specs.declared.DirectResult.the-variants.{Is}
 use Rattle.direct.specs.Reading.{networkStart}
 use Rattle.direct.specs.Direct.{direct}
-use Rattle.pft.specs.declared.BuildResult.the-variants as Built
-use Rattle.pft.specs.Build.{build}
+use Rattle.build.specs.declared.BuildResult.the-variants as Built
+use Rattle.build.specs.Build.{build}
 
 -- ---- the words
 
