@@ -26,6 +26,7 @@ use crate::{Part, Record, MAX_RECORDS};
 /// assert_eq!(any.to_string(), "tcp dst port 80 or tcp dst port 443 or tcp dst port 8080");
 /// ```
 #[derive(Clone, PartialEq, Eq, Hash)]
+#[must_use = "a join makes a new condition and changes none"]
 pub struct Condition {
     /// The records in prefix order, and zero after the last. All zero where they are too many.
     bytes: [u8; RECORD * MAX_RECORDS],

@@ -11,8 +11,9 @@ const INSTRUCTION: usize = 8;
 
 /// The program of an accepted tree.
 ///
-/// Its frames can only be refused as too long, and its runs are never broken. It holds its bytes
-/// itself, [`MAX_PROGRAM`] at most, and needs no heap; [`build`] takes a buffer of the caller's.
+/// Its frames can only be refused as too long, and its runs are never broken. It needs no heap and
+/// is 31 KiB large whatever its length: best lent, or put into a `Box`. [`build`] takes a buffer of
+/// the caller's instead.
 #[derive(Clone, PartialEq, Eq, Hash)]
 pub struct Program {
     /// The instructions, and zero after the last.
@@ -38,12 +39,12 @@ impl Program {
     /// ```
     pub fn from_tree<T: AsRef<[u8]> + ?Sized>(tree: &T) -> Result<Program, Error> {
         check_archive()?;
-        let mut bytes = [0; MAX_PROGRAM];
-        let count = build(tree.as_ref(), &mut bytes)?;
-        Ok(Program {
-            bytes,
-            length: INSTRUCTION * count,
-        })
+        let mut program = Program {
+            bytes: [0; MAX_PROGRAM],
+            length: 0,
+        };
+        program.length = INSTRUCTION * build(tree.as_ref(), &mut program.bytes)?;
+        Ok(program)
     }
 
     /// Its bytes, 8 for each instruction, little-endian. On a little-endian machine they are those
