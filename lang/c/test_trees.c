@@ -128,7 +128,7 @@ static void counts(void)
     TEST(tree.length == PFT_TREE_MAX && build() == 0);
     pft_add_protocol(&tree, PFT_IP);
     TEST(tree.length == PFT_TREE_MAX && build() == PFT_WRONG_COUNT);
-    for (i = 0; i < 70000; i++)
+    for (i = 0; i < 65535; i++) /* a count that starts anew would now be 128 */
         pft_add_protocol(&tree, PFT_IP);
     TEST(tree.length == PFT_TREE_MAX && build() == PFT_WRONG_COUNT);
 }

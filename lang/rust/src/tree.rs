@@ -245,13 +245,12 @@ impl<'a> Part<'a> {
 
     /// Its left part: that of an and or an or, and the part of a not.
     pub fn left(self) -> Option<Part<'a>> {
-        part_at(self.bytes, RECORD).filter(|_| below(self.record()) > 0)
+        part_at(self.bytes, RECORD)
     }
 
     /// The right part of an and or an or.
     pub fn right(self) -> Option<Part<'a>> {
-        let left = self.left().filter(|_| below(self.record()) > 1)?;
-        part_at(self.bytes, RECORD + left.bytes.len())
+        part_at(self.bytes, RECORD + self.left()?.bytes.len())
     }
 
     /// Its records in prefix order.

@@ -266,7 +266,8 @@ fn most_records() {
     for _ in 0..100 {
         doubled = doubled.clone().and(doubled);
     }
-    assert_eq!(Tree::ethernet(doubled), too_many);
+    assert_eq!(Tree::ethernet(doubled.clone()), too_many);
+    assert_eq!(Tree::ethernet(doubled.not()), too_many);
 }
 
 /// Files that are refused with 1 to 4 are no trees; those that a build refuses later are.
