@@ -1,17 +1,21 @@
 -- The machine jumps where `targets` says and nowhere else: `skips-are-targets` and `targets-are-reached`.
 use Prim.Native.Nat.{ℕ, zero, suc, _+_, _*_, _/_, _%_, _^_, _<_}
-use mathlib.Core.Path.{_≡_, refl, ap}
+use mathlib.Core.Path.{_≡_, refl, sym, _∙_}
 use mathlib.Core.List.{List, [], _∷_, List·Memᴰ, List·Memᴰ·head, List·Memᴰ·tail}
-use mathlib.Core.Bool.{Bool, true, false, cond, not, _&&_}
+use mathlib.Core.Bool.{Bool, true, false, cond, _&&_, _||_, true≢false}
 use native.Mathlib.Omega.{arith}
-use lib.Dec.{ltb, leb, eqb}
-use lib.Bits.{bitAnd}
-use borrow.Author.Tests.{eq-eqb, le-ltb, eqb-true}
+use lib.Dec.{ltb, eqb}
+use borrow.Author.Tests.{eq-eqb, le-ltb, eqb-true, eqb-false}
 use Rattle.bpf.specs.declared.Insn.{Insn}
 use Rattle.bpf.specs.Program.{insn, targets, Each}
 use Rattle.vm.specs.declared.Effect.the-variants.{Skip}
 use Rattle.vm.specs.Machine.{jmp, effect}
-use Rattle.vm.proofs.Effects.{effect-any}
+use Rattle.vm.proofs.Effects.{isIn, within, still}
+
+-- an instruction of class JMP does what its operation says of A and its operand
+jump-is : (f m : List ℕ) (x : Insn) (a b : ℕ) → x .code % 8 ≡ 5 → effect f m x a b ≡ jmp (x .code / 16 % 16) x a (cond (eqb (x .code / 8 % 2) 0) (x .k) b)
+unfolding effect
+jump-is f m x a b c = rw c
 
 -- ---- every skip leads to a target
 
@@ -22,31 +26,45 @@ knownTargets op i x = cond (eqb op 0) ((i + 1 + x .k) ∷ []) ((i + 1 + x .jt) �
 abbrev targetsBy : ℕ → ℕ → Insn → List ℕ
 targetsBy op i x = cond (ltb op 5) (knownTargets op i x) []
 
-no-skip : {P : Type 0} → _≡_ {A = ℕ} 0 1 → P
-no-skip e = absurd (omega arith)
+is-first : (n : ℕ) (l : List ℕ) → isIn n (n ∷ l) ≡ true
+is-first n l = rw (eq-eqb n n refl)
 
-one : (i : ℕ) {d n : ℕ} {l : List ℕ} → Skip d ≡ Skip n → List·Memᴰ (i + 1 + n) ((i + 1 + d) ∷ l)
-one i {d} {n} e = let z : n ≡ d = cc in List·Memᴰ·head (ap (λ k. i + 1 + k) z)
+or-true : (b : Bool) → (b || true) ≡ true
+or-true true = refl
+or-true false = refl
 
-either-way : (i t f n : ℕ) (b : Bool) → Skip (cond b t f) ≡ Skip n → List·Memᴰ (i + 1 + n) ((i + 1 + t) ∷ (i + 1 + f) ∷ [])
-either-way i t f n true e = one i e
-either-way i t f n false e = List·Memᴰ·tail (one i e)
+one-way : (i t f : ℕ) (b : Bool) → within i ((i + 1 + t) ∷ (i + 1 + f) ∷ []) (Skip (cond b t f)) ≡ true
+one-way i t f true = is-first (i + 1 + t) ((i + 1 + f) ∷ [])
+one-way i t f false = rw (is-first (i + 1 + f) []) (or-true (eqb (i + 1 + f) (i + 1 + t)))
 
-jump-target : (op i : ℕ) (x : Insn) (a v n : ℕ) → jmp op x a v ≡ Skip n → List·Memᴰ (i + 1 + n) (targetsBy op i x)
+jump-within : (op i : ℕ) (x : Insn) (a v : ℕ) → within i (targetsBy op i x) (jmp op x a v) ≡ true
 unfolding jmp
-jump-target zero i x a v n e = one i e
-jump-target (suc zero) i x a v n e = either-way i (x .jt) (x .jf) n (eqb a v) e
-jump-target (suc (suc zero)) i x a v n e = either-way i (x .jt) (x .jf) n (ltb v a) e
-jump-target (suc (suc (suc zero))) i x a v n e = either-way i (x .jt) (x .jf) n (leb v a) e
-jump-target (suc (suc (suc (suc zero)))) i x a v n e = either-way i (x .jt) (x .jf) n (not (eqb (bitAnd a v) 0)) e
-jump-target (suc (suc (suc (suc (suc op))))) i x a v n e = no-skip (cc)
+jump-within zero i x a v = is-first (i + 1 + x .k) []
+jump-within (suc zero) i x a v = simp one-way
+jump-within (suc (suc zero)) i x a v = simp one-way
+jump-within (suc (suc (suc zero))) i x a v = simp one-way
+jump-within (suc (suc (suc (suc zero)))) i x a v = simp one-way
+jump-within (suc (suc (suc (suc (suc op))))) i x a v = refl
+
+-- any instruction
+effect-within : (f m : List ℕ) (i : ℕ) (x : Insn) (a b : ℕ) → within i (targets i x) (effect f m x a b) ≡ true
+effect-within f m i x a b = go (eqb (x .code % 8) 5) refl
+  where
+    go : (c : Bool) → eqb (x .code % 8) 5 ≡ c → within i (cond (c && ltb (x .code / 16 % 16) 5) (knownTargets (x .code / 16 % 16) i x) []) (effect f m x a b) ≡ true
+    go true e = rw (jump-is f m x a b (eqb-true (x .code % 8) 5 e)) (jump-within (x .code / 16 % 16) i x a _)
+    go false e = still i [] f m x a b (x .code % 8) refl (eqb-false (x .code % 8) 5 e)
+
+in-list : (n : ℕ) (l : List ℕ) → isIn n l ≡ true → List·Memᴰ n l
+in-list n [] h = absurd (true≢false (sym h))
+in-list n (m ∷ l) h = go (eqb n m) refl h (λ k. in-list n l k)
+  where
+    go : (b : Bool) → eqb n m ≡ b → (b || isIn n l) ≡ true → (isIn n l ≡ true → List·Memᴰ n l) → List·Memᴰ n (m ∷ l)
+    go true e h later = List·Memᴰ·head (eqb-true n m e)
+    go false e h later = List·Memᴰ·tail (later h)
 
 -- What the instruction x at place i skips leads to one of its targets, whatever the frame f, the scratch words m, A and X are.
 pub skips-are-targets : (f m : List ℕ) (i : ℕ) (x : Insn) (A X n : ℕ) → effect f m x A X ≡ Skip n → List·Memᴰ (i + 1 + n) (targets i x)
-skips-are-targets f m i x A X =
-    effect-any (λ e. (n : ℕ) → e ≡ Skip n → List·Memᴰ (i + 1 + n) (targets i x)) (λ v n e. no-skip (cc)) (λ v n e. no-skip (cc)) (λ k v n e. no-skip (cc))
-    (λ v n e. no-skip (cc)) f m x A X
-    (λ c n e. rw (eq-eqb (x .code % 8) 5 c) (jump-target (x .code / 16 % 16) i x A _ n e))
+skips-are-targets f m i x A X n e = in-list (i + 1 + n) (targets i x) (rw e at (effect-within f m i x A X))
 
 -- ---- every target is reached
 
@@ -64,14 +82,9 @@ pub record Reached (i : ℕ) (x : Insn) (t : ℕ) : Type 0 where
   pub there : i + 1 + over ≡ t
 
 module _ (i : ℕ) (x : Insn) where
-  -- in class JMP it does what its operation says of A and X
   jumps-by : x .code % 8 ≡ 5 → (f m : List ℕ) (a v : ℕ) → effect f m (byX x) a v ≡ jmp (x .code / 16 % 16) (byX x) a v
-  unfolding effect
-  jumps-by c f m a v = rw (class, op, bit)
+  jumps-by c f m a v = jump-is f m (byX x) a v (omega arith) ∙ rw (op, bit)
     where
-      class : (x .code / 16 * 16 + 8 + x .code % 8) % 8 ≡ 5
-      class = omega arith
-
       op : (x .code / 16 * 16 + 8 + x .code % 8) / 16 % 16 ≡ x .code / 16 % 16
       op = omega arith
 
@@ -85,8 +98,8 @@ module _ (i : ℕ) (x : Insn) where
   unfolding jmp
   reached-by zero h = (by 0 0 (omega arith) (λ f m. h f m 0 0), tt)
   reached-by (suc zero) h = (by 0 0 (omega arith) (λ f m. h f m 0 0), (by 0 1 (omega arith) (λ f m. h f m 0 1), tt))
-  reached-by (suc (suc zero)) h = (by 1 0 (omega arith) (λ f m. h f m 1 0), (by 0 0 (omega arith) (λ f m. h f m 0 0), tt))
-  reached-by (suc (suc (suc zero))) h = (by 0 0 (omega arith) (λ f m. h f m 0 0), (by 0 1 (omega arith) (λ f m. h f m 0 1), tt))
+  reached-by (suc (suc zero)) h = (by 1 0 (omega arith) (λ f m. h f m 1 0), (by 0 1 (omega arith) (λ f m. h f m 0 1), tt))
+  reached-by (suc (suc (suc zero))) h = (by 1 0 (omega arith) (λ f m. h f m 1 0), (by 0 1 (omega arith) (λ f m. h f m 0 1), tt))
   reached-by (suc (suc (suc (suc zero)))) h = (by 1 1 (omega arith) (λ f m. h f m 1 1), (by 0 0 (omega arith) (λ f m. h f m 0 0), tt))
   reached-by (suc (suc (suc (suc (suc op))))) h = rw (le-ltb (suc (suc (suc (suc (suc op))))) 5 (omega arith)) tt
 
