@@ -6,15 +6,22 @@ true 2> /dev/null 8<&0 || exec 0> /dev/null
 true 2> /dev/null 8>&1 || exec 1< /dev/null
 true 8>&2 || exec 2< /dev/null
 
-help() { cat "$here/help/$1.txt"; }
+# Prints a help, or the version, which the Rust crate has, and ends.
+help() {
+    cat "$here/help/$1.txt" || exit 3
+    exit 0
+}
+
+version() {
+    sed -n 's/^version = "\(.*\)"$/pft \1/p' "$root/lang/rust/Cargo.toml" || exit 3
+    exit 0
+}
 
 # Says how a command is used, which is the start of its help, and ends.
 usage() {
     sed '/^$/q' "$here/help/$1.txt" >&2
     exit 2
 }
-
-version() { sed -n 's/^version = "\(.*\)"$/pft \1/p' "$root/lang/rust/Cargo.toml"; }
 
 # Says why a program cannot be run, and ends.
 fail() {

@@ -21,7 +21,7 @@ LINE = re.compile(r"(.*): (accepted|dropped|short|broken), steps (\d+), direct r
 EARLY = set(make.CUTS) | {"empty"}
 WORDS = {
     1: "strange file", 2: "wrong count", 3: "bad record", 4: "not one tree", 5: "kind on raw", 6: "port protocol",
-    7: "ether on raw", 8: "far jump", 10: "long frame",
+    7: "ether on raw", 8: "far jump",
 }  # fmt: skip
 
 

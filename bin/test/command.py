@@ -95,6 +95,8 @@ def try_output(tally):
         tally.expect(f"{what} > /dev/full", shell(f"{line} > /dev/full"), ("", full, 3))
         tally.expect(f"{what} >&-", shell(f"{line} >&-"), ("", closed, 3))
         tally.expect(f"{what} 2>&-", shell(f"{line} 2>&-")[1], "")
+    for line in ("bin/pft --help", "bin/pft list --help", "bin/pft --version", "bin/pft-list --help", "bin/pft-list --version"):
+        tally.expect(f"{line} > /dev/full", shell(f"{line} 2> /dev/null > /dev/full"), ("", "", 3))
     broken = f"(sleep 0.3; bin/pft list {NOT_IP}; echo $? >&2) | true"
     tally.expect("list | true", shell(broken), ("", "141\n", 0))
 
@@ -267,10 +269,10 @@ def main():
     tally = Tally()
     for part in (try_input, try_output, try_large, try_usage, try_unproved):
         part(tally)
-    with tempfile.TemporaryDirectory() as room:
+    with tempfile.TemporaryDirectory(prefix="pft test ") as room:
         for part in (try_frames, try_trees, try_link):
             part(tally, room)
-    with tempfile.TemporaryDirectory() as room:
+    with tempfile.TemporaryDirectory(prefix="pft test ") as room:
         os.chmod(room, 0o755)
         copy_sources(room)
         try_unmade(tally, room)

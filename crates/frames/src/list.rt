@@ -17,7 +17,7 @@ use listing::Form;
 // ---- a tree file
 
 // How a refusal is told: to people, or as document 01 has it, in the answer's place.
-pub enum Refusals {
+enum Refusals {
     Said,
     Answered,
 }

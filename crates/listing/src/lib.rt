@@ -18,6 +18,9 @@ pub enum Form {
 // What is printed is gathered here and written when little room is left.
 type Page = [u8; 4096];
 
+// Up to here the page has room for a line, which takes at most 128 bytes.
+const ROOMY: usize = 3968;
+
 // ---- the instruction
 
 // The number of two bytes, the low one first.
@@ -316,7 +319,7 @@ pub fn put_program(fd: i32, program: &[u8; 32768], count: usize, form: Form) -> 
     let mut i = 0;
     while i < 4096 && i < count {
         end = put_line(&mut page, end, insn_at(program, 8 * i), i as u64, form);
-        if end > 3900 {
+        if end > ROOMY {
             if !written(fd, page, end) {
                 return false;
             }

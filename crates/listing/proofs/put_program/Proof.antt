@@ -1,12 +1,12 @@
 -- A line has room after each turn; the buffer has 4,096 instructions at most.
 use borrow.Author.Needs.{needs}
-use Prim.Native.Nat.{_≤_, _-_}
+use Prim.Native.Nat.{_+_, _≤_, _-_}
 use mathlib.Core.Logic.{⊎-elim}
 use Rattle.listing.proofs.put_program.Statement.{statement}
 use Rattle.listing.proofs.put_program.Tie as tie
 
 abbrev Inv-loop : tie.InvT-loop
-Inv-loop fd program count form page₀ end₀ i₀ page end i = end ≤ 3900
+Inv-loop fd program count form page₀ end₀ i₀ page end i = end + 128 ≤ 4096
 
 abbrev μ-loop : tie.MeasureT-loop
 μ-loop fd program count form page₀ end₀ i₀ page end i = 4096 - i
