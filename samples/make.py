@@ -334,8 +334,11 @@ def write(wanted):
 
 
 def main():
+    if sys.argv[1:] == ["--help"]:
+        return print(__doc__.strip())
     if sys.argv[1:] not in ([], ["--check"]):
-        sys.exit("usage: samples/make.py [--check]")
+        print("usage: samples/make.py [--check]", file=sys.stderr)
+        sys.exit(2)
     sys.exit(check(files()) if sys.argv[1:] else write(files()))
 
 

@@ -36,8 +36,11 @@ class Tally:
 
 
 def run(*words):
-    """Lines of answers, lines of messages, exit status."""
+    """Lines of answers, lines of messages, exit status. It ends where the command is not made, or older than its sources."""
     done = subprocess.run([PFT, "run", *words], capture_output=True, text=True)
+    if done.returncode == 2:
+        sys.stderr.write(done.stderr)
+        sys.exit(2)
     return done.stdout.splitlines(), done.stderr.splitlines(), done.returncode
 
 
@@ -81,8 +84,11 @@ def try_refused(tally):
 
 
 def main():
-    if len(sys.argv) > 1:
-        sys.exit("usage: samples/try.py")
+    if sys.argv[1:] == ["--help"]:
+        return print(__doc__.strip())
+    if sys.argv[1:]:
+        print("usage: samples/try.py", file=sys.stderr)
+        sys.exit(2)
     tally = Tally()
     for part in (try_trees, try_refused):
         part(tally)

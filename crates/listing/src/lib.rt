@@ -1,7 +1,9 @@
 // A program's listing: document 01's, those of `tcpdump -d` and `-dd`, and the line that tc and iptables take.
 use bpf::Insn;
 ghost use Prim.Native.Nat.{_+_, _*_, _≤_, _<_};
+ghost use mathlib.Core.Path.{_≡_};
 ghost use lib.ListN.{length};
+ghost use Rattle.bpf.specs.Program.{insnAt};
 
 // How a program is listed.
 pub enum Form {
@@ -23,14 +25,23 @@ const ROOMY: usize = 3968;
 
 // ---- the instruction
 
-// The number of two bytes, the low one first.
-fn half(low: u8, high: u8) -> u16 {
+// A little-endian number of two bytes, and of four.
+fn half(low: u8, high: u8) -> u16
+    ensures { λ r. ⌜ r ≡ low + 256 * high ⌝ }
+{
     low as u16 + 256 * high as u16
+}
+
+fn whole(low: u16, high: u16) -> u32
+    ensures { λ r. ⌜ r ≡ low + 65536 * high ⌝ }
+{
+    low as u32 + 65536 * high as u32
 }
 
 // The instruction at a place of a program's bytes.
 fn insn_at(program: &[u8; 32768], at: usize) -> Insn
     requires { ⌜ at + 7 < 32768 ⌝ }
+    ensures { λ r. ⌜ r ≡ insnAt at (now (program .entry)) ⌝ }
 {
     let low = half(program[at + 4], program[at + 5]);
     let high = half(program[at + 6], program[at + 7]);
@@ -38,7 +49,7 @@ fn insn_at(program: &[u8; 32768], at: usize) -> Insn
         code: half(program[at], program[at + 1]),
         jt: program[at + 2],
         jf: program[at + 3],
-        k: low as u32 + 65536 * high as u32,
+        k: whole(low, high),
     }
 }
 
