@@ -73,8 +73,8 @@ proved_at() {
 
 # Ends where the proved program of a crate is not made, or a source is newer than its proof.
 need() {
-    test -x "$root/target/bin/$1" ||
-        fail "it is not made yet. In $root: \`rt check $1\` proves what it stands on and makes it, in minutes; \`bin/pft --unproved\` makes one without proofs, in seconds"
+    test -x "$root/target/bin/$1" || fail "it is not made yet. In $root: \`rt check $1\` proves what it\
+ stands on and makes it, in minutes; \`bin/pft --unproved\` makes one without proofs, in seconds"
     changed=$(newer "$(proved_at "$1")" "$1" src specs proofs)
     test -z "$changed" || fail "$changed is newer than target/bin/$1. In $root: \`rt check $1\` makes it anew"
 }

@@ -36,7 +36,7 @@ class Tally:
 
 
 def run(*words):
-    """Lines of answers, lines of messages, exit status. It ends where the command is not made, or older than its sources."""
+    """Lines of answers, lines of messages, exit status. It ends where the command is not made or too old."""
     done = subprocess.run([PFT, "run", *words], capture_output=True, text=True)
     if done.returncode == 2:
         sys.stderr.write(done.stderr)

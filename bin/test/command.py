@@ -74,7 +74,8 @@ def try_input(tally):
         closed = "standard input: cannot be read, it is not open\n"
         tally.expect(f"{command} < .", shell(f"{command} < ."), ("", directory, 3))
         tally.expect(f"{command} <&-", shell(f"{command} <&-"), ("", closed, 3))
-    tally.expect("list of nothing", shell("bin/pft list < /dev/null"), ("", "standard input: refused 1, strange file\n", 1))
+    strange = "standard input: refused 1, strange file\n"
+    tally.expect("list of nothing", shell("bin/pft list < /dev/null"), ("", strange, 1))
     tally.expect("pft-list of nothing", shell("bin/pft-list < /dev/null"), ("refused 1\n", "", 1))
     frame = f"standard input: {ACCEPTED}\n"
     tally.expect("run TREE -", shell('bin/pft run "$1" - < "$2"', WEB, GOOD), (frame, "", 0))
@@ -88,17 +89,22 @@ def try_output(tally):
     full = "standard output: cannot be written, no space is left\n"
     closed = "standard output: cannot be written, it is not open\n"
     tries = {
-        "bin/pft list": f"bin/pft list {NOT_IP}", "bin/pft list -d": f"bin/pft list -d {NOT_IP}", "bin/pft-list": f"bin/pft-list < {NOT_IP}",
-        "bin/pft-list, refused": f"bin/pft-list < {STRANGE}", "bin/pft run": f"bin/pft run {WEB} {GOOD} {GOOD}",
-    }  # fmt: skip
+        "bin/pft list": 'bin/pft list "$1"',
+        "bin/pft list -d": 'bin/pft list -d "$1"',
+        "bin/pft-list": 'bin/pft-list < "$1"',
+        "bin/pft-list, refused": 'bin/pft-list < "$2"',
+        "bin/pft run": 'bin/pft run "$1" "$3" "$3"',
+    }
+    words = [NOT_IP, STRANGE, GOOD]
     for what, line in tries.items():
-        tally.expect(f"{what} > /dev/full", shell(f"{line} > /dev/full"), ("", full, 3))
-        tally.expect(f"{what} >&-", shell(f"{line} >&-"), ("", closed, 3))
-        tally.expect(f"{what} 2>&-", shell(f"{line} 2>&-")[1], "")
-    for line in ("bin/pft --help", "bin/pft list --help", "bin/pft --version", "bin/pft-list --help", "bin/pft-list --version"):
+        tally.expect(f"{what} > /dev/full", shell(f"{line} > /dev/full", *words), ("", full, 3))
+        tally.expect(f"{what} >&-", shell(f"{line} >&-", *words), ("", closed, 3))
+        tally.expect(f"{what} 2>&-", shell(f"{line} 2>&-", *words)[1], "")
+    for words in ("pft --help", "pft list --help", "pft --version", "pft-list --help", "pft-list --version"):
+        line = f"bin/{words}"
         tally.expect(f"{line} > /dev/full", shell(f"{line} 2> /dev/null > /dev/full"), ("", "", 3))
-    broken = f"(sleep 0.3; bin/pft list {NOT_IP}; echo $? >&2) | true"
-    tally.expect("list | true", shell(broken), ("", "141\n", 0))
+    broken = '(sleep 0.3; bin/pft list "$1"; echo $? >&2) | true'
+    tally.expect("list | true", shell(broken, NOT_IP), ("", "141\n", 0))
 
 
 def try_large(tally):
@@ -121,7 +127,7 @@ def try_large(tally):
 
 
 def try_frames(tally, room):
-    """Frames that are refused or cannot be read are passed over, and the worst is the status; names may hold anything."""
+    """Frames that are refused or cannot be read are passed over; the largest status holds; a name may hold anything."""
     odd = f"{room}/a: dropped, steps 1,  direct.frame"
     shutil.copy(GOOD, odd)
     words = [GOOD, f"{room}/none", room, f"{GOOD}/x", "", LONG, "x" * 300, "x" * 5000, LONGEST, odd, SHORT]
@@ -171,10 +177,14 @@ def try_unreadable(tally, room):
 
 
 def try_usage(tally):
-    tries = {"": "pft", "count": "pft", "-x": "pft", "../pft": "pft", "list -x": "pft/list", "list a b": "pft/list", "list a -d": "pft/list"}
-    tries |= {"run": "pft/run", "run tree": "pft/run", "run -x frame": "pft/run"}
-    for words, name in tries.items():
-        tally.expect(f"pft {words}", run(*words.split()), usage(name))
+    tries = {
+        "pft": ["", "count", "-x", "../pft"],
+        "pft/list": ["list -x", "list a b", "list a -d"],
+        "pft/run": ["run", "run tree", "run -x frame"],
+    }
+    for name, lines in tries.items():
+        for words in lines:
+            tally.expect(f"pft {words}", run(*words.split()), usage(name))
     tally.expect("pft-list tree", run("tree", name="bin/pft-list"), usage("pft-list"))
 
 
@@ -225,7 +235,7 @@ def try_unmade(tally, room):
 
 
 def try_older(tally, room):
-    """A source that is newer than the proof is named; rt's next check of the program, also of an unchanged one, clears that."""
+    """A source that is newer than the proof is named, until rt's next check of the program, also of an unchanged one."""
     word = pathlib.Path(f"{room}/target/log/command.res")
     tally.expect("newer than its sources", run("list", NOT_IP, root=room), (LISTING, "", 0))
     for file in ("crates.txt", "crates/emit/src/lib.rt", "crates/bpf/specs/Lib.antt", "crates/vm/proofs"):

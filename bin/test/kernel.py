@@ -61,6 +61,9 @@ def accepted(tree, frames):
 
 
 def devices():
+    """A pair that is silent by itself: with IPv6, Linux would send packets of its own."""
+    for switch in pathlib.Path("/proc/sys/net/ipv6/conf").glob("*/disable_ipv6"):
+        switch.write_text("1")
     say("ip", "link", "add", SENDER, "type", "veth", "peer", "name", RECEIVER, "address", ADDRESS)
     for device in (SENDER, RECEIVER, NOWHERE):
         say("ip", "link", "set", device, "up")
@@ -101,9 +104,10 @@ def count_by_iptables(tree, packets):
 
 
 def try_tc(tally):
-    paths = sorted(path for path in (ROOT / "samples" / "ethernet").glob("*.frame") if path.stat().st_size >= ETHERNET_HEADER)
+    folder = ROOT / "samples" / "ethernet"
+    paths = sorted(path for path in folder.glob("*.frame") if path.stat().st_size >= ETHERNET_HEADER)
     frames = [path.read_bytes() for path in paths]
-    for tree in sorted((ROOT / "samples" / "ethernet").glob("*.pft")):
+    for tree in sorted(folder.glob("*.pft")):
         tally.expect(f"tc, {tree.name}", count_by_tc(tree, frames), accepted(tree, paths))
 
 
