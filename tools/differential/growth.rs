@@ -12,7 +12,7 @@ use crate::trial::Trial;
 use crate::INSN;
 
 /// Changes tried before the search starts anew.
-const CLIMB: u64 = 32_000;
+const CLIMB: u64 = 250_000;
 /// How many instructions a change may lose when a climb begins.
 const SLACK: u64 = 12;
 /// Conditions that take many instructions, the longest most often.
@@ -56,16 +56,34 @@ impl Climber {
         file_of(self.link, records)
     }
 
-    /// One change or a few; while there are too many records, one more.
+    /// One change or two; while there are too many records, some are left out.
     fn next(&self, rng: &mut Rng) -> Vec<Record> {
         let mut records = changed(rng, &self.records);
-        let mut more = rng.pick(&[0, 0, 1, 2]);
-        while more > 0 || records.len() > MOST {
+        if rng.one_in(3) {
             records = changed(rng, &records);
-            more = usize::saturating_sub(more, 1);
+        }
+        while records.len() > MOST {
+            records = shortened(rng, &records);
         }
         records
     }
+}
+
+/// Without a not, or without one part of a join, a leaf mostly.
+fn shortened(rng: &mut Rng, records: &[Record]) -> Vec<Record> {
+    let at = rng.below(records.len());
+    let last = end(records, at);
+    let part = &records[at..last];
+    let kept = match part[0][0] {
+        AND | OR => {
+            let middle = end(part, 1);
+            let (left, right) = (&part[1..middle], &part[middle..]);
+            if left.len() < right.len() { right } else { left }
+        }
+        NOT => &part[1..],
+        _ => part,
+    };
+    [&records[..at], kept, &records[last..]].concat()
 }
 
 /// The records with the tree at a place in other words: under a not or a join,

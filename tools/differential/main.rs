@@ -1,7 +1,8 @@
 //! Compares the port with the published Rust: builds, runs, direct readings.
 //!
 //! differential SEED COUNT                compares
-//! differential --first STAGE SEED COUNT  ends at the first difference of one stage
+//! differential --first STAGE SEED COUNT  ends at the first difference of one stage,
+//!                                        or of one field of the values
 //! differential --print SEED COUNT        prints files, as tools/oracle/trees.py
 
 use std::io::Write;
@@ -40,7 +41,9 @@ const STAGES: [(&str, Stage); 5] = [
     ("growth", |seed, count, parts| {
         growth::compare_all(seed, count / FILES, parts)
     }),
-    ("values", |seed, _, parts| sweep::compare_all(seed, parts)),
+    ("values", |seed, _, parts| {
+        sweep::compare("values", seed, parts)
+    }),
     ("machine", |seed, count, parts| {
         machine::compare_all(seed, RUNS * count, parts)
     }),
@@ -65,14 +68,15 @@ fn compare_all(seed: u64, count: u64) {
     std::process::exit((parts.print() > 0) as i32);
 }
 
-/// One stage, up to its first difference.
+/// One stage, or one field of the values, up to its first difference.
 fn compare_first(name: &str, seed: u64, count: u64) {
     part::FIRST.store(true, std::sync::atomic::Ordering::Relaxed);
-    let Some((_, stage)) = STAGES.iter().find(|(n, _)| *n == name) else {
-        fail("no such stage");
-    };
     let mut parts = Parts::new();
-    stage(seed, count, &mut parts);
+    match STAGES.iter().find(|(n, _)| *n == name) {
+        Some((_, stage)) => stage(seed, count, &mut parts),
+        None if sweep::is_field(name) => sweep::compare(name, seed, &mut parts),
+        None => fail(&format!("no such stage: {name}")),
+    }
     parts.print();
 }
 
@@ -82,10 +86,19 @@ fn print_all(seed: u64, count: u64) {
     for _ in 0..count {
         let file = trees::tree_file(&mut rng);
         let line: String = file.iter().map(|b| format!("{b:02x}")).collect();
-        if writeln!(out, "{line}").is_err() {
-            fail("standard output is closed");
-        }
+        writeln!(out, "{line}").unwrap_or_else(|e| fail(&e.to_string()));
     }
+}
+
+extern "C" {
+    fn signal(number: i32, action: usize) -> usize;
+}
+
+/// A reader that goes away ends the run, as it does other programs.
+fn end_with_reader() {
+    const SIGPIPE: i32 = 13;
+    const DEFAULT: usize = 0;
+    unsafe { signal(SIGPIPE, DEFAULT) };
 }
 
 fn number(word: &str) -> u64 {
@@ -96,6 +109,7 @@ fn number(word: &str) -> u64 {
 }
 
 fn main() {
+    end_with_reader();
     let words: Vec<String> = std::env::args().skip(1).collect();
     let words: Vec<&str> = words.iter().map(String::as_str).collect();
     match words[..] {

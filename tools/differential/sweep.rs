@@ -289,87 +289,88 @@ impl Sweep<'_> {
 
 // ── All of them ──────────────────────────────────────────────────────────────
 
-impl Sweep<'_> {
-    fn numbers(&mut self) {
-        let others = conditions();
-        for link in LINKS {
-            for number in 0..=u8::MAX {
-                self.number(link, number, &others);
-                self.numbered_port(link, number);
-                ADDRS6.iter().for_each(|a| self.prefix(link, number, *a));
-            }
-        }
-    }
-
-    fn ethertypes(&mut self) {
-        for link in LINKS {
-            (0..=u16::MAX).for_each(|kind| self.ethertype(link, kind));
-        }
-    }
-
-    fn addresses(&mut self) {
-        for half in 0..=u16::MAX {
-            LOW_HALVES.iter().for_each(|low| self.host4(halves(half, *low)));
-            HIGH_HALVES.iter().for_each(|high| self.host4(halves(*high, half)));
-            HALF_MASKS.iter().for_each(|mask| self.net4(halves(half, 0), *mask));
-            for mask in [half as u32, (half as u32) << 16] {
-                self.net4(halves(half, !half), mask);
-                self.net4(halves(half, !half), !mask);
-            }
-        }
-    }
-
-    fn long_addresses(&mut self) {
-        let places = [(12, 8), (14, 8), (17, 3)];
-        for (kind, count) in places {
-            for at in (0..count).map(|i| 2 * i) {
-                (0..=u16::MAX).for_each(|value| self.half(kind, at, value));
-            }
-        }
-    }
-
-    fn bytes(&mut self) {
-        for kind in KINDS_AND_OTHERS {
-            for protocol in [0, 1, 5, 11, 12] {
-                let base = with(kind, &[(2, protocol)]);
-                for at in 0..RECORD * 256 {
-                    self.byte(base, at / 256, at as u8);
-                }
-            }
-        }
-    }
-
-    fn all_ports(&mut self) {
-        for link in LINKS {
-            PORT_PROTOCOLS.iter().for_each(|p| self.ports(link, *p));
+fn every_number(sweep: &mut Sweep) {
+    let others = conditions();
+    for link in LINKS {
+        for number in 0..=u8::MAX {
+            sweep.number(link, number, &others);
+            sweep.numbered_port(link, number);
+            ADDRS6.iter().for_each(|a| sweep.prefix(link, number, *a));
         }
     }
 }
 
-/// Each field, and how many trees and frames it took.
-fn every_field<'p>(sweep: &mut Sweep<'p>) {
-    let all: [(&str, fn(&mut Sweep<'p>)); 6] = [
-        ("protocol numbers, prefixes, small numbers: 256 each", Sweep::numbers),
-        ("ethertypes: 65,536", Sweep::ethertypes),
-        ("IPv4 addresses and masks by halves", Sweep::addresses),
-        ("IPv6 and ether addresses by halves", Sweep::long_addresses),
-        ("bytes of records: 256 each", Sweep::bytes),
-        ("ports, low and high sides of ranges: 65,536 each", Sweep::all_ports),
-    ];
-    for (name, field) in all {
-        let before = (sweep.trees, sweep.frames);
-        field(sweep);
-        let (trees, frames) = (sweep.trees - before.0, sweep.frames - before.1);
-        println!("{name}; {trees} trees, {frames} frames");
+fn every_ethertype(sweep: &mut Sweep) {
+    for link in LINKS {
+        (0..=u16::MAX).for_each(|kind| sweep.ethertype(link, kind));
     }
 }
 
-pub fn compare_all(seed: u64, parts: &mut Parts) {
-    every_field(&mut Sweep {
-        parts,
-        rng: Rng(seed ^ 0x5EE9),
-        turn: seed as usize % 65_536,
-        trees: 0,
-        frames: 0,
-    });
+fn every_half4(sweep: &mut Sweep) {
+    for half in 0..=u16::MAX {
+        LOW_HALVES.iter().for_each(|low| sweep.host4(halves(half, *low)));
+        HIGH_HALVES.iter().for_each(|high| sweep.host4(halves(*high, half)));
+        HALF_MASKS.iter().for_each(|mask| sweep.net4(halves(half, 0), *mask));
+        for mask in [half as u32, (half as u32) << 16] {
+            sweep.net4(halves(half, !half), mask);
+            sweep.net4(halves(half, !half), !mask);
+        }
+    }
+}
+
+fn every_half6(sweep: &mut Sweep) {
+    for (kind, count) in [(12, 8), (14, 8), (17, 3)] {
+        for at in (0..count).map(|i| 2 * i) {
+            (0..=u16::MAX).for_each(|value| sweep.half(kind, at, value));
+        }
+    }
+}
+
+fn every_byte(sweep: &mut Sweep) {
+    for kind in KINDS_AND_OTHERS {
+        for protocol in [0, 1, 5, 11, 12] {
+            let base = with(kind, &[(2, protocol)]);
+            for at in 0..RECORD * 256 {
+                sweep.byte(base, at / 256, at as u8);
+            }
+        }
+    }
+}
+
+fn every_port(sweep: &mut Sweep) {
+    for link in LINKS {
+        PORT_PROTOCOLS.iter().for_each(|protocol| sweep.ports(link, *protocol));
+    }
+}
+
+/// A field's name, what is taken of it, and how.
+type Field = (&'static str, &'static str, fn(&mut Sweep));
+
+const FIELDS: [Field; 6] = [
+    ("numbers", "protocol numbers, prefixes, small numbers, 256 each", every_number),
+    ("ethertypes", "ethertypes, 65,536", every_ethertype),
+    ("addresses", "IPv4 addresses and masks by halves", every_half4),
+    ("segments", "IPv6 and ether addresses by halves", every_half6),
+    ("bytes", "every byte of a record, 256 each", every_byte),
+    ("ports", "ports, low and high sides of ranges, 65,536 each", every_port),
+];
+
+/// One field, or all for the name `values`.
+pub fn compare(name: &str, seed: u64, parts: &mut Parts) {
+    let wanted = |field: &&Field| name == "values" || name == field.0;
+    for (_, words, every) in FIELDS.iter().filter(wanted) {
+        let mut sweep = Sweep {
+            parts,
+            rng: Rng(seed ^ 0x5EE9),
+            turn: seed as usize % 65_536,
+            trees: 0,
+            frames: 0,
+        };
+        every(&mut sweep);
+        println!("{words}: {} trees, {} frames", sweep.trees, sweep.frames);
+    }
+}
+
+pub fn is_field(name: &str) -> bool {
+    FIELDS.iter().any(|field| field.0 == name)
 }

@@ -126,6 +126,7 @@ impl Trial {
     /// One frame, its difference noted with the smallest input that shows it.
     pub fn ask(&self, frame: &[u8], parts: &mut Parts) -> Seen {
         let (seen, wrong) = self.look(frame);
+        parts.machine.compared += self.built.is_ok() as u64;
         parts.readings.compared += 1;
         if let Some((blame, _)) = wrong {
             let size = self.file.len() + frame.len();
