@@ -103,7 +103,9 @@ fn end_with_reader() {
 
 fn number(word: &str) -> u64 {
     let Ok(number) = word.parse() else {
-        fail(&format!("not a number from 0 to 18446744073709551615: {word}"));
+        fail(&format!(
+            "not a number from 0 to 18446744073709551615: {word}"
+        ));
     };
     number
 }
