@@ -110,6 +110,8 @@ fn number(word: &str) -> u64 {
     number
 }
 
+const USAGE: &str = "usage: differential [--print | --first STAGE] SEED COUNT";
+
 fn main() {
     end_with_reader();
     let words: Vec<String> = std::env::args().skip(1).collect();
@@ -118,6 +120,7 @@ fn main() {
         [seed, count] => compare_all(number(seed), number(count)),
         ["--first", stage, seed, count] => compare_first(stage, number(seed), number(count)),
         ["--print", seed, count] => print_all(number(seed), number(count)),
-        _ => fail("usage: differential [--print | --first STAGE] SEED COUNT"),
+        ["--help"] => println!("{USAGE}"),
+        _ => fail(USAGE),
     }
 }
