@@ -7,16 +7,11 @@ import pathlib
 import re
 import shutil
 import subprocess
-import sys
+
+from words import stop
 
 HERE = pathlib.Path(__file__).resolve().parent
 ROOT = HERE.parent.parent
-
-
-def stop(message):
-    """The comparison could not be made."""
-    print(f"compare: {message}", file=sys.stderr)
-    sys.exit(2)
 
 
 # ── Theorems ─────────────────────────────────────────────────────────────────
@@ -90,8 +85,8 @@ def listed_crates():
 
 
 # The crates of definitions, and in them what functions promise one another, which stands on the code's crates.
-DEFINITIONS = ["error", "bpf", "vm", "ast", "direct", "codegen", "pft"]
-PROMISES = {"pft": ["Promises"]}
+DEFINITIONS = ["error", "bpf", "vm", "ast", "direct", "codegen", "build"]
+PROMISES = {"build": ["Promises"]}
 
 
 def definition_crates():

@@ -2,7 +2,7 @@
 // the root of a driver.
 //
 // `codegen`, `ast`, `bpf` and `vm` are the published modules, put beside this
-// file by tools/oracle/build. The modules `error` and `optimizer` below are
+// file by tools/oracle/copies. The modules `error` and `optimizer` below are
 // stand-ins. The tree file and its checks 1 to 4 are no part of the Rust;
 // they are written here from document 01.
 
@@ -280,9 +280,11 @@ fn tree(records: &mut std::vec::IntoIter<&[u8]>) -> Expr {
 
 // ── The two answers ──────────────────────────────────────────────────────────
 
+/// Ends with 2: nothing was answered.
 fn fail(message: &str) -> ! {
-    eprintln!("oracle: {message}");
-    std::process::exit(1)
+    let program = std::env::args().next().unwrap_or_default();
+    eprintln!("{program}: {message}");
+    std::process::exit(2)
 }
 
 /// The number of an error of the Rust, by its text.
