@@ -7,16 +7,11 @@ import pathlib
 import re
 import shutil
 import subprocess
-import sys
+
+from words import stop
 
 HERE = pathlib.Path(__file__).resolve().parent
 ROOT = HERE.parent.parent
-
-
-def stop(message):
-    """The comparison could not be made."""
-    print(f"compare: {message}", file=sys.stderr)
-    sys.exit(2)
 
 
 # ── Theorems ─────────────────────────────────────────────────────────────────

@@ -1,5 +1,6 @@
 """Broken copies of the Rust, and of what stands beside it: what is wrong, the
-file, a text that it has once, and the text in its place."""
+file, a text that it has once, and the text in its place; for a single value also
+the stage that has to find it."""
 
 # Document 01: "Wrong turns seen in such code".
 WRONG_TURNS = [
@@ -610,6 +611,188 @@ BUFFER = [
     ),
 ]
 
+# Wrong for one value only: where a run draws from few, it never meets it.
+VALUES = [
+    (
+        "port 5004 is 5005",
+        "codegen",
+        "let k = port as u32;",
+        "let k = port as u32 + (port == 5004) as u32;",
+        "ports",
+    ),
+    (
+        "a range from 61,000 starts at 61,001",
+        "codegen",
+        "cg.push(Insn::jge_k(lo as u32, 0, 0xff));",
+        "cg.push(Insn::jge_k(lo as u32 + (lo == 61_000) as u32, 0, 0xff));",
+        "ports",
+    ),
+    (
+        "a range to 1023 ends at 1022",
+        "codegen",
+        "cg.push(Insn::jgt_k(hi as u32, 0xff, 0));",
+        "cg.push(Insn::jgt_k(hi as u32 - (hi == 1023) as u32, 0xff, 0));",
+        "ports",
+    ),
+    (
+        "host 10.20.0.5 is 10.20.0.4",
+        "codegen",
+        "let k = u32::from(addr);",
+        "let k = u32::from(addr) - (u32::from(addr) == 0x0a14_0005) as u32;",
+        "addresses",
+    ),
+    (
+        "net 172.16.0.0 is 172.17.0.0",
+        "codegen",
+        "let masked = u32::from(net.addr) & mask;",
+        """let masked = u32::from(net.addr) & mask;
+        let masked = masked | ((u32::from(net.addr) == 0xac10_0000) as u32) << 16;""",
+        "addresses",
+    ),
+    (
+        "mask 255.255.240.0 is 255.255.224.0",
+        "codegen",
+        "let mask = net.mask;",
+        "let mask = net.mask & !(((net.mask == 0xffff_f000) as u32) << 12);",
+        "addresses",
+    ),
+    (
+        "a segment 0xfd12 is 0xfd13",
+        "codegen",
+        """cg.push(Insn::ldh_abs(off + i as u32 * 2));
+                let idx = cg.push(Insn::jeq_k(seg as u32, 0, 0xff));""",
+        """cg.push(Insn::ldh_abs(off + i as u32 * 2));
+                let seg = seg + (seg == 0xfd12) as u16;
+                let idx = cg.push(Insn::jeq_k(seg as u32, 0, 0xff));""",
+        "segments",
+    ),
+    (
+        "a half 0x5e7f of an ether address is 0x5e7e",
+        "codegen",
+        "let half = u32::from_be_bytes([0, 0, addr.0[4], addr.0[5]]);",
+        """let half = u32::from_be_bytes([0, 0, addr.0[4], addr.0[5]]);
+            let half = half - (half == 0x5e7f) as u32;""",
+        "segments",
+    ),
+    (
+        "ethertype 0x88cc is 0x88cd",
+        "codegen",
+        "Primitive::EtherProto(et) => self.emit_ethertype(*et as u32),",
+        "Primitive::EtherProto(et) => self.emit_ethertype(*et as u32 + (*et == 0x88cc) as u32),",
+        "ethertypes",
+    ),
+    (
+        "an or does not hoist ethertype 0x88e5",
+        "codegen",
+        "Primitive::EtherProto(et) => g.ethertype = Some(*et as u32),",
+        "Primitive::EtherProto(et) => g.ethertype = Some(*et as u32).filter(|et| *et != 0x88e5),",
+        "ethertypes",
+    ),
+    (
+        "Num 47 is 46",
+        "codegen",
+        "Proto::Num(n) => self.emit_ip4_l4(*n),",
+        "Proto::Num(n) => self.emit_ip4_l4(*n - (*n == 47) as u8),",
+        "numbers",
+    ),
+    (
+        "an IPv6 chain of 43 is 44",
+        "codegen",
+        "Primitive::Ip6ProtoChain(n) => self.emit_ip6_l4(*n),",
+        "Primitive::Ip6ProtoChain(n) => self.emit_ip6_l4(*n + (*n == 43) as u8),",
+        "numbers",
+    ),
+    (
+        "prefix 77 is 76",
+        "codegen",
+        "let prefix_len = net.prefix_len;",
+        "let prefix_len = net.prefix_len - (net.prefix_len == 77) as u8;",
+        "numbers",
+    ),
+    (
+        "the machine's jeq misses 5004",
+        "vm",
+        "BPF_JEQ => a == v,",
+        "BPF_JEQ => a == v && v != 5004,",
+        "ports",
+    ),
+]
+
+# The reading of document 01's words, which the direct reading is compared with.
+READINGS = [
+    (
+        "LinuxSll's ethertype is at 12",
+        "meaning",
+        "3 => self.h(14) == v,",
+        "3 => self.h(12) == v,",
+    ),
+    (
+        "every kind is IPv4 on RawIp",
+        "meaning",
+        "_ => v == IP4,",
+        "_ => v != ARP,",
+    ),
+    (
+        "Num 6 has TCP's ports",
+        "meaning",
+        "10 => &[132],",
+        """10 => &[132],
+            11 => &[6],""",
+    ),
+    (
+        "later fragments have ports",
+        "meaning",
+        "(set.contains(&self.b(n + 9)) && whole).then_some(x)",
+        "(set.contains(&self.b(n + 9)) || whole && false).then_some(x)",
+    ),
+    (
+        "a prefix leaves out its last bit",
+        "meaning",
+        "match (prefix as usize).saturating_sub(8 * byte) {",
+        "match (prefix as usize).saturating_sub(8 * byte + 1) {",
+    ),
+    (
+        "bytes past the end are ones",
+        "meaning",
+        "self.frame.get(at).copied().unwrap_or(0)",
+        "self.frame.get(at).copied().unwrap_or(255)",
+    ),
+    (
+        "ether hosts are false on RawIp",
+        "meaning",
+        "17 => self.ether_host(r),",
+        "17 => self.link != 2 && self.ether_host(r),",
+    ),
+    (
+        "a port is read directly wrong for 5004",
+        "meaning",
+        "15 => self.ports(r, a, a),",
+        "15 => self.ports(r, a, a) && a != 5004,",
+        "ports",
+    ),
+    (
+        "an ethertype is read directly wrong for 0x88cc",
+        "meaning",
+        "18 => self.kind(a),",
+        "18 => self.kind(a) && a != 0x88cc,",
+        "ethertypes",
+    ),
+    (
+        "a chain is read directly wrong for 47",
+        "meaning",
+        "23 => self.protocol4(r[3]),",
+        "23 => self.protocol4(r[3]) != (r[3] == 47),",
+        "numbers",
+    ),
+    (
+        "prefix 77 is read directly as 76",
+        "meaning",
+        "14 => self.address6(r, |i| prefix_byte(r[3], i)),",
+        "14 => self.address6(r, |i| prefix_byte(r[3] - (r[3] == 77) as u8, i)),",
+        "numbers",
+    ),
+]
+
 GROUPS = [
     ("wrong turns", WRONG_TURNS),
     ("worthless versions", WORTHLESS),
@@ -619,4 +802,6 @@ GROUPS = [
     ("machine", MACHINE),
     ("checks", CHECKS),
     ("buffer", BUFFER),
+    ("single values", VALUES),
+    ("readings", READINGS),
 ]

@@ -3,8 +3,10 @@
 
 use std::collections::{BTreeMap, HashMap};
 
-use crate::part::{to_hex, Part};
+use crate::bpf::Insn;
+use crate::part::{to_hex, Parts};
 use crate::trees::{self, edges, systematic, Rng};
+use crate::wide::widened;
 use crate::{exports, insn, shrink, Number, HEADER, INSN, MAX_PROGRAM, MAX_RECORDS, RECORD};
 
 /// Bytes before and after the lent part, and what the lent part holds before.
@@ -13,11 +15,14 @@ const CANARY: u8 = 0xC5;
 const STALE: u8 = 0x5A;
 
 /// What the Rust says of a file: the program's bytes, or the refusal.
-type Answer = Result<Vec<u8>, Number>;
+pub type Answer = Result<Vec<u8>, Number>;
 
-fn rust_answer(file: &[u8]) -> Answer {
-    let insns = crate::build(file)?;
-    Ok(insns.iter().flat_map(|i| i.to_le_bytes()).collect())
+pub fn bytes_of(insns: &[Insn]) -> Vec<u8> {
+    insns.iter().flat_map(|i| i.to_le_bytes()).collect()
+}
+
+pub fn rust_answer(file: &[u8]) -> Answer {
+    Ok(bytes_of(&crate::build(file)?))
 }
 
 // ── One call ─────────────────────────────────────────────────────────────────
@@ -58,10 +63,20 @@ fn lengths(rng: &mut Rng, answer: &Answer) -> Vec<usize> {
     all
 }
 
+/// Whether an exact buffer differs; a refused file is lent some bytes.
+pub fn quick_difference(file: &[u8], answer: &Answer) -> bool {
+    const REFUSED: usize = 24;
+    let (number, wanted) = match answer {
+        Ok(program) => ((program.len() / INSN) as u32, &program[..]),
+        Err(n) => (n << 16, &[0; REFUSED][..]),
+    };
+    let mut lent = vec![STALE; wanted.len()];
+    exports::build(file, &mut lent) != number || lent != wanted
+}
+
 // ── What was met ─────────────────────────────────────────────────────────────
 
 pub struct Met {
-    pub part: Part,
     calls: u64,
     /// Calls that answered 9.
     short: u64,
@@ -98,7 +113,6 @@ impl Met {
     fn new() -> Met {
         let none = || vec![0; 256];
         Met {
-            part: Part::new("builds"),
             calls: 0,
             short: 0,
             answers: [0; 9],
@@ -113,7 +127,6 @@ impl Met {
     }
 
     fn note(&mut self, file: &[u8], answer: &Answer) {
-        self.part.compared += 1;
         if !matches!(answer, Err(1..=4)) {
             self.note_conditions(file, answer.is_ok());
         }
@@ -145,7 +158,7 @@ impl Met {
         }
     }
 
-    pub fn print(&self) {
+    fn print(&self) {
         println!("accepted: {}", self.answers[0]);
         for (n, count) in self.answers.iter().enumerate().skip(1) {
             println!("refused {n}: {count}");
@@ -215,19 +228,24 @@ impl Met {
 // ── The comparison ───────────────────────────────────────────────────────────
 
 /// Compares every buffer of one file; counts one difference at most.
-fn compare(file: &[u8], answer: &Answer, sizes: &mut Rng, met: &mut Met) {
+fn compare(file: &[u8], answer: &Answer, sizes: &mut Rng, met: &mut Met, parts: &mut Parts) {
     met.note(file, answer);
+    parts.builds.compared += 1;
     for length in lengths(sizes, answer) {
         met.calls += 1;
         met.short += answer.as_ref().is_ok_and(|p| p.len() > length) as u64;
         if let Some(words) = difference(file, answer, length) {
-            met.part.differs(file.len(), || {
-                let least = shrink::tree(file, |f| any_difference(f).is_some());
-                any_difference(&least).unwrap_or(words)
-            });
+            let text = || any_difference(file).map_or(words, |_| least_difference(file));
+            parts.builds.differs(file.len(), text);
             return;
         }
     }
+}
+
+/// The smallest input that differs for one of a few lengths.
+pub fn least_difference(file: &[u8]) -> String {
+    let least = shrink::tree(file, |f| any_difference(f).is_some());
+    any_difference(&least).unwrap_or_default()
 }
 
 /// How a buffer of a length differs.
@@ -257,8 +275,8 @@ fn any_difference(file: &[u8]) -> Option<String> {
     lengths.find_map(|length| difference(file, &answer, length))
 }
 
-fn compare_file(file: &[u8], sizes: &mut Rng, met: &mut Met) {
-    compare(file, &rust_answer(file), sizes, met);
+fn compare_file(file: &[u8], sizes: &mut Rng, met: &mut Met, parts: &mut Parts) {
+    compare(file, &rust_answer(file), sizes, met, parts);
 }
 
 fn shown(number: u32) -> String {
@@ -269,13 +287,13 @@ fn shown(number: u32) -> String {
 }
 
 /// Files around the limit of 255, and how far beyond it they are.
-fn compare_tuned(rng: &mut Rng, sizes: &mut Rng, met: &mut Met) -> u64 {
+fn compare_tuned(rng: &mut Rng, sizes: &mut Rng, met: &mut Met, parts: &mut Parts) -> u64 {
     let files = edges::tuned(rng, |file| crate::build(file).err());
     let mut at_limit = false;
     let mut beyond = 0;
     for file in &files {
         let answer = rust_answer(file);
-        compare(file, &answer, sizes, met);
+        compare(file, &answer, sizes, met, parts);
         match answer {
             Ok(program) => at_limit = distances(&program).contains(&255),
             Err(_) if at_limit => {
@@ -289,13 +307,13 @@ fn compare_tuned(rng: &mut Rng, sizes: &mut Rng, met: &mut Met) -> u64 {
 }
 
 /// A file with several faults; the refusal has to be one that they allow.
-fn compare_faulty(rng: &mut Rng, sizes: &mut Rng, met: &mut Met) {
+fn compare_faulty(rng: &mut Rng, sizes: &mut Rng, met: &mut Met, parts: &mut Parts) {
     let faulty = edges::faulty(rng);
     let answer = rust_answer(&faulty.file);
-    compare(&faulty.file, &answer, sizes, met);
+    compare(&faulty.file, &answer, sizes, met, parts);
     let refusal = answer.err();
     if !faulty.fits(refusal) {
-        met.part.differs(faulty.file.len(), || {
+        parts.builds.differs(faulty.file.len(), || {
             format!(
                 "faults {:?}, the Rust {refusal:?}, tree {}",
                 faulty.faults,
@@ -308,34 +326,36 @@ fn compare_faulty(rng: &mut Rng, sizes: &mut Rng, met: &mut Met) {
 }
 
 /// Files without a draw.
-fn compare_systematic(sizes: &mut Rng, met: &mut Met) {
+fn compare_systematic(sizes: &mut Rng, met: &mut Met, parts: &mut Parts) {
     let nots = (1..=3).flat_map(|link| (0..MAX_RECORDS).map(move |n| trees::nots(link, n)));
     let headers = systematic::headers()
         .chain(systematic::lengths())
         .chain(systematic::counts());
     let records = systematic::record_bytes().chain(systematic::pairs());
     for file in nots.chain(headers).chain(records) {
-        compare_file(&file, sizes, met);
+        compare_file(&file, sizes, met, parts);
     }
 }
 
 /// So many random files, then the systematic ones.
-pub fn compare_all(seed: u64, count: u64) -> Met {
+pub fn compare_all(seed: u64, count: u64, parts: &mut Parts) {
     let (mut rng, mut edge, mut sizes) = (Rng(seed), Rng(seed ^ 0xED6E), Rng(!seed));
+    let mut wide = Rng(seed ^ 0x31DE);
     let mut met = Met::new();
     for _ in 0..count / 2 {
-        compare_file(&trees::tree_file(&mut rng), &mut sizes, &mut met);
+        let file = widened(&mut wide, trees::tree_file(&mut rng));
+        compare_file(&file, &mut sizes, &mut met, parts);
     }
     for _ in 0..count / 4 {
-        compare_faulty(&mut edge, &mut sizes, &mut met);
+        compare_faulty(&mut edge, &mut sizes, &mut met, parts);
     }
     for _ in 0..count / 8 {
-        compare_file(&edges::junk(&mut edge), &mut sizes, &mut met);
+        compare_file(&edges::junk(&mut edge), &mut sizes, &mut met, parts);
     }
     let mut made = 0;
     while made < count / 8 {
-        made += 1 + compare_tuned(&mut edge, &mut sizes, &mut met);
+        made += 1 + compare_tuned(&mut edge, &mut sizes, &mut met, parts);
     }
-    compare_systematic(&mut sizes, &mut met);
-    met
+    compare_systematic(&mut sizes, &mut met, parts);
+    met.print();
 }

@@ -17,68 +17,103 @@ pub fn network(link: u8) -> usize {
 }
 
 /// A frame in the making.
+pub struct Sketch {
+    /// Where the ethertype stands.
+    kind_at: Option<usize>,
+    pub n: usize,
+    pub frame: Vec<u8>,
+}
+
+impl Sketch {
+    pub fn new(link: u8, frame: Vec<u8>) -> Sketch {
+        let n = network(link);
+        Sketch {
+            kind_at: n.checked_sub(2),
+            n,
+            frame,
+        }
+    }
+
+    pub fn put(&mut self, at: usize, bytes: &[u8]) {
+        if at + bytes.len() <= self.frame.len() {
+            self.frame[at..at + bytes.len()].copy_from_slice(bytes);
+        }
+    }
+
+    pub fn kind(&mut self, kind: u16) {
+        if let Some(at) = self.kind_at {
+            self.put(at, &kind.to_be_bytes());
+        }
+    }
+
+    pub fn protocol4(&mut self, number: u8) {
+        self.kind(0x0800);
+        self.put(self.n + 9, &[number]);
+    }
+
+    pub fn protocol6(&mut self, number: u8) {
+        self.kind(0x86DD);
+        self.put(self.n + 6, &[number]);
+    }
+
+    /// IPv4 with so many words of header and this fragment field, as far as ports
+    /// need it; where the ports start.
+    pub fn transport4(&mut self, number: u8, words: u8, fragment: [u8; 2]) -> usize {
+        self.protocol4(number);
+        self.put(self.n, &[0x40 + words]);
+        self.put(self.n + 6, &fragment);
+        self.n + 4 * words as usize
+    }
+
+    pub fn transport6(&mut self, number: u8) -> usize {
+        self.protocol6(number);
+        self.n + 40
+    }
+
+    /// Bytes at the source (1), the destination (2) or both (3).
+    pub fn sides(&mut self, sides: u8, source: usize, destination: usize, bytes: &[u8]) {
+        if sides != 2 {
+            self.put(source, bytes);
+        }
+        if sides != 1 {
+            self.put(destination, bytes);
+        }
+    }
+}
+
+/// A tree's own values put into a frame.
 struct Aim<'a> {
     rng: &'a mut Rng,
     records: Vec<&'a [u8]>,
-    /// Where the ethertype stands.
-    kind_at: Option<usize>,
-    n: usize,
-    frame: Vec<u8>,
+    to: Sketch,
 }
 
 /// IPv4 numbers of the protocols 5 to 10; 8 is IPv6.
 const NUMBERS: [u8; 6] = [6, 17, 1, 58, 2, 132];
 
 impl Aim<'_> {
-    fn put(&mut self, at: usize, bytes: &[u8]) {
-        if at + bytes.len() <= self.frame.len() {
-            self.frame[at..at + bytes.len()].copy_from_slice(bytes);
-        }
-    }
-
-    fn kind(&mut self, kind: u16) {
-        if let Some(at) = self.kind_at {
-            self.put(at, &kind.to_be_bytes());
-        }
-    }
-
-    fn protocol4(&mut self, number: u8) {
-        self.kind(0x0800);
-        self.put(self.n + 9, &[number]);
-    }
-
-    fn protocol6(&mut self, number: u8) {
-        self.kind(0x86DD);
-        self.put(self.n + 6, &[number]);
-    }
-
     fn protocol(&mut self, r: &[u8]) {
         match r[2] {
-            1..=4 => self.kind([0x0800, 0x86DD, 0x0806, 0x8035][r[2] as usize - 1]),
-            8 => self.protocol6(58),
-            5..=10 => self.protocol4(NUMBERS[r[2] as usize - 5]),
-            11 => self.protocol4(r[3]),
-            _ => self.protocol6(r[3]),
+            1..=4 => self.to.kind([0x0800, 0x86DD, 0x0806, 0x8035][r[2] as usize - 1]),
+            8 => self.to.protocol6(58),
+            5..=10 => self.to.protocol4(NUMBERS[r[2] as usize - 5]),
+            11 => self.to.protocol4(r[3]),
+            _ => self.to.protocol6(r[3]),
         }
     }
 
     /// Bytes at the source, the destination or both, as the direction says.
     fn sides(&mut self, direction: u8, source: usize, destination: usize, bytes: &[u8]) {
-        let direction = match direction {
+        let sides = match direction {
             0 => self.rng.between(1, 3) as u8,
             other => other,
         };
-        if direction != 2 {
-            self.put(source, bytes);
-        }
-        if direction != 1 {
-            self.put(destination, bytes);
-        }
+        self.to.sides(sides, source, destination, bytes);
     }
 
     /// An address, at times with other bits where mask or prefix does not look.
     fn address(&mut self, r: &[u8]) {
-        let n = self.n;
+        let n = self.to.n;
         let mut bytes = if r[0] % 2 == 1 {
             r[8..12].to_vec()
         } else {
@@ -93,34 +128,30 @@ impl Aim<'_> {
         };
         bytes[byte] ^= if free { bit } else { 0 };
         if r[0] % 2 == 1 {
-            self.kind(0x0800);
+            self.to.kind(0x0800);
             self.sides(r[1], n + 12, n + 16, &bytes);
         } else {
-            self.kind(0x86DD);
+            self.to.kind(0x86DD);
             self.sides(r[1], n + 8, n + 24, &bytes);
         }
     }
 
     /// Header and protocol for ports; where the ports start.
     fn transport(&mut self, protocol: u8) -> usize {
+        const FRAGMENTS: [[u8; 2]; 6] =
+            [[0, 0], [0, 0], [0x40, 0], [0xE0, 0], [0, 1], [0x1F, 0xFF]];
         let number = match protocol {
             5 => 6,
             6 => 17,
             10 => 132,
             _ => self.rng.pick(&[6, 17]),
         };
-        if self.kind_at.is_some() && self.rng.below(2) == 0 {
-            self.protocol6(number);
-            return self.n + 40;
+        if self.to.kind_at.is_some() && self.rng.below(2) == 0 {
+            return self.to.transport6(number);
         }
-        self.protocol4(number);
         let words = self.rng.pick(&[5, 5, 5, 6, 15, 0, 1, 2]);
-        self.put(self.n, &[0x40 + words]);
-        let fragment = self
-            .rng
-            .pick(&[[0, 0], [0, 0], [0x40, 0], [0xE0, 0], [0, 1], [0x1F, 0xFF]]);
-        self.put(self.n + 6, &fragment);
-        self.n + 4 * words as usize
+        let fragment = self.rng.pick(&FRAGMENTS);
+        self.to.transport4(number, words, fragment)
     }
 
     fn port(&mut self, r: &[u8]) {
@@ -144,28 +175,28 @@ impl Aim<'_> {
     }
 
     fn leaf(&mut self, r: &[u8]) {
-        let n = self.n;
+        let n = self.to.n;
         match r[0] {
             10 => self.protocol(r),
             11..=14 => self.address(r),
             15 | 16 => self.port(r),
             17 => self.sides(r[1], 6, 0, &r[8..14]),
-            18 => self.kind(u16::from_be_bytes([r[4], r[5]])),
-            19 => self.put(0, &[1]),
+            18 => self.to.kind(u16::from_be_bytes([r[4], r[5]])),
+            19 => self.to.put(0, &[1]),
             20 => {
-                self.kind(0x0800);
-                self.put(n + 16, &[255; 4]);
+                self.to.kind(0x0800);
+                self.to.put(n + 16, &[255; 4]);
             }
             21 => {
-                self.kind(0x0800);
-                self.put(n + 16, &[0xE5]);
+                self.to.kind(0x0800);
+                self.to.put(n + 16, &[0xE5]);
             }
             22 => {
-                self.kind(0x86DD);
-                self.put(n + 24, &[255]);
+                self.to.kind(0x86DD);
+                self.to.put(n + 24, &[255]);
             }
-            23 => self.protocol4(r[3]),
-            _ => self.protocol6(r[3]),
+            23 => self.to.protocol4(r[3]),
+            _ => self.to.protocol6(r[3]),
         }
     }
 
@@ -196,8 +227,8 @@ impl Aim<'_> {
     /// Some bits or bytes of the frame changed.
     fn miss(&mut self) {
         for _ in 0..self.rng.pick(&[0, 0, 1, 1, 2, 4]) {
-            let at = self.rng.below(self.frame.len());
-            self.frame[at] ^= 1 << self.rng.below(8);
+            let at = self.rng.below(self.to.frame.len());
+            self.to.frame[at] ^= 1 << self.rng.below(8);
         }
     }
 }
@@ -216,22 +247,19 @@ fn ground(rng: &mut Rng, size: usize) -> Vec<u8> {
 
 /// A frame for a tree file that passes checks 1 to 4, two bytes longer than n + 64.
 pub fn aimed(rng: &mut Rng, file: &[u8]) -> Vec<u8> {
-    let n = network(file[5]);
-    let frame = ground(rng, n + REACH + 2);
+    let frame = ground(rng, network(file[5]) + REACH + 2);
     let truth = rng.below(3) > 0;
     let mut aim = Aim {
         rng,
         records: file[HEADER..].chunks_exact(RECORD).collect(),
-        kind_at: n.checked_sub(2),
-        n,
-        frame,
+        to: Sketch::new(file[5], frame),
     };
     if aim.rng.below(2) == 0 {
-        aim.kind(0x0800);
+        aim.to.kind(0x0800);
     }
     aim.tree(0, truth);
     aim.miss();
-    aim.frame
+    aim.to.frame
 }
 
 /// Other bytes for what follows a place.

@@ -6,7 +6,7 @@
 use std::collections::HashSet;
 
 use crate::bpf::Insn;
-use crate::part::{to_hex, Part};
+use crate::part::{to_hex, Parts};
 use crate::trees::Rng;
 use crate::{exports, fail, insn, shrink, traced, vm, INSN, MAX_FRAME, MAX_PROGRAM};
 
@@ -54,8 +54,9 @@ pub fn shown(number: u32) -> String {
 
 // ── What was met ─────────────────────────────────────────────────────────────
 
-pub struct Met {
-    pub part: Part,
+/// One stage's runs.
+struct Met<'p> {
+    parts: &'p mut Parts,
     /// Runs by verdict, and refused with 10 and 11.
     verdicts: [u64; 5],
     refused: [u64; 2],
@@ -65,9 +66,9 @@ pub struct Met {
     steps: u32,
 }
 
-impl Met {
+impl Met<'_> {
     fn note(&mut self, number: u32) {
-        self.part.compared += 1;
+        self.parts.machine.compared += 1;
         match number >> 16 {
             n @ 1..=4 => self.verdicts[n as usize] += 1,
             266 => self.refused[0] += 1,
@@ -84,7 +85,7 @@ impl Met {
         }
     }
 
-    pub fn print(&self) {
+    fn print(&self) {
         let [_, accepted, dropped, short, broken] = self.verdicts;
         println!("runs: {accepted} accepted, {dropped} dropped, {short} short, {broken} broken, up to {} steps", self.steps);
         println!(
@@ -108,9 +109,9 @@ fn compare(program: &[u8], frame: &[u8], met: &mut Met) {
     met.note(there);
     let size = program.len() + frame.len();
     if here != there {
-        met.part.differs(size, || least_difference(program, frame));
+        met.parts.machine.differs(size, || least_difference(program, frame));
     } else if lent.0 != program || lent.1 != frame {
-        met.part.differs(size, || {
+        met.parts.machine.differs(size, || {
             format!(
                 "written to: program {} frame {}",
                 to_hex(program),
@@ -206,8 +207,9 @@ const VALUES: [u32; 24] = [
     0xFFFF_FFFF,
 ];
 
+/// A quarter are of the whole range.
 fn any_value(rng: &mut Rng) -> u32 {
-    if rng.below(8) == 0 {
+    if rng.below(4) == 0 {
         rng.draw() as u32
     } else {
         rng.pick(&VALUES)
@@ -275,7 +277,7 @@ impl Draws<'_> {
     }
 
     fn value(&mut self) -> u32 {
-        if self.one_in(30) {
+        if self.one_in(4) {
             self.rng.draw() as u32
         } else {
             self.rng.pick(&self.values)
@@ -496,11 +498,12 @@ fn limit(rng: &mut Rng, met: &mut Met) {
     compare(&program, &frame, met);
 }
 
-/// Staged codes in turn, random programs, limits: so many runs.
-pub fn compare_all(seed: u64, count: u64) -> Met {
+/// Staged codes in turn, random programs, limits: so many runs; then every code of
+/// 16 bits once.
+pub fn compare_all(seed: u64, count: u64, parts: &mut Parts) {
     let mut rng = Rng(seed ^ 0x3AC1);
     let mut met = Met {
-        part: Part::new("machine"),
+        parts,
         verdicts: [0; 5],
         refused: [0; 2],
         codes: HashSet::new(),
@@ -522,5 +525,8 @@ pub fn compare_all(seed: u64, count: u64) -> Met {
             _ => random(&mut rng, &mut met),
         }
     }
-    met
+    for code in 0..=u16::MAX {
+        staged(&mut rng, code, &mut met);
+    }
+    met.print();
 }

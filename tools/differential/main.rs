@@ -1,54 +1,83 @@
 //! Compares the port with the published Rust: builds, runs, direct readings.
 //!
-//! differential SEED COUNT               compares
-//! differential --first PART SEED COUNT  ends at the first difference of one part
-//! differential --print SEED COUNT       prints files, as tools/oracle/trees.py
+//! differential SEED COUNT                compares
+//! differential --first STAGE SEED COUNT  ends at the first difference of one stage,
+//!                                        or of one field of the values
+//! differential --print SEED COUNT        prints files, as tools/oracle/trees.py
 
 use std::io::Write;
 
+use part::Parts;
 use trees::Rng;
 
 mod builds;
 mod exports;
 mod frames;
+mod growth;
 mod machine;
+mod meaning;
 mod part;
 mod readings;
 mod shrink;
+mod sweep;
 #[allow(dead_code)]
 mod traced;
 mod trees;
+mod trial;
+mod wide;
 include!("answers.rs");
 
-/// Runs of the machine, and frames of readings, for one random file.
+/// Runs of the machine, and frames of readings, for one random file; and random
+/// files for one step of growth.
 const RUNS: u64 = 3;
 const FRAMES: u64 = 6;
+const FILES: u64 = 8;
 
-/// All parts: so many random files, and runs and frames for them.
+type Stage = fn(seed: u64, count: u64, parts: &mut Parts);
+
+/// In the order of the run: all that builds comes before machine and readings.
+const STAGES: [(&str, Stage); 5] = [
+    ("builds", builds::compare_all),
+    ("growth", |seed, count, parts| {
+        growth::compare_all(seed, count / FILES, parts)
+    }),
+    ("values", |seed, _, parts| {
+        sweep::compare("values", seed, parts)
+    }),
+    ("machine", |seed, count, parts| {
+        machine::compare_all(seed, RUNS * count, parts)
+    }),
+    ("readings", |seed, count, parts| {
+        readings::compare_all(seed, FRAMES * count, parts)
+    }),
+];
+
 fn compare_all(seed: u64, count: u64) {
-    let builds = builds::compare_all(seed, count);
-    builds.print();
-    let machine = machine::compare_all(seed, RUNS * count);
-    machine.print();
-    let readings = readings::compare_all(seed, FRAMES * count);
-    readings.print();
-    let parts = [&builds.part, &machine.part, &readings.part];
-    parts.iter().for_each(|part| part.print());
-    let compared: u64 = parts.iter().map(|part| part.compared).sum();
-    let differences: u64 = parts.iter().map(|part| part.differences).sum();
-    println!("{compared} compared, {differences} differences");
-    std::process::exit((differences > 0) as i32);
+    let mut parts = Parts::new();
+    let mut told = false;
+    for (name, stage) in STAGES {
+        println!("# {name}");
+        stage(seed, count, &mut parts);
+        if parts.builds.differences > 0 && !told {
+            told = true;
+            parts.builds.print();
+            println!("builds differ: no run and no reading is compared over a program that does");
+        }
+    }
+    println!("# result");
+    std::process::exit((parts.print() > 0) as i32);
 }
 
-/// One part, up to its first difference.
+/// One stage, or one field of the values, up to its first difference.
 fn compare_first(name: &str, seed: u64, count: u64) {
     part::FIRST.store(true, std::sync::atomic::Ordering::Relaxed);
-    match name {
-        "builds" => builds::compare_all(seed, count).part.print(),
-        "machine" => machine::compare_all(seed, RUNS * count).part.print(),
-        "readings" => readings::compare_all(seed, FRAMES * count).part.print(),
-        _ => fail("no such part"),
+    let mut parts = Parts::new();
+    match STAGES.iter().find(|(n, _)| *n == name) {
+        Some((_, stage)) => stage(seed, count, &mut parts),
+        None if sweep::is_field(name) => sweep::compare(name, seed, &mut parts),
+        None => fail(&format!("no such stage: {name}")),
     }
+    parts.print();
 }
 
 fn print_all(seed: u64, count: u64) {
@@ -57,21 +86,36 @@ fn print_all(seed: u64, count: u64) {
     for _ in 0..count {
         let file = trees::tree_file(&mut rng);
         let line: String = file.iter().map(|b| format!("{b:02x}")).collect();
-        writeln!(out, "{line}").expect("standard output");
+        writeln!(out, "{line}").unwrap_or_else(|e| fail(&e.to_string()));
     }
 }
 
+extern "C" {
+    fn signal(number: i32, action: usize) -> usize;
+}
+
+/// A reader that goes away ends the run, as it does other programs.
+fn end_with_reader() {
+    const SIGPIPE: i32 = 13;
+    const DEFAULT: usize = 0;
+    unsafe { signal(SIGPIPE, DEFAULT) };
+}
+
 fn number(word: &str) -> u64 {
-    word.parse().unwrap_or_else(|_| fail("not a number"))
+    let Ok(number) = word.parse() else {
+        fail(&format!("not a number from 0 to 18446744073709551615: {word}"));
+    };
+    number
 }
 
 fn main() {
+    end_with_reader();
     let words: Vec<String> = std::env::args().skip(1).collect();
     let words: Vec<&str> = words.iter().map(String::as_str).collect();
     match words[..] {
         [seed, count] => compare_all(number(seed), number(count)),
-        ["--first", part, seed, count] => compare_first(part, number(seed), number(count)),
+        ["--first", stage, seed, count] => compare_first(stage, number(seed), number(count)),
         ["--print", seed, count] => print_all(number(seed), number(count)),
-        _ => fail("usage: differential [--print | --first PART] SEED COUNT"),
+        _ => fail("usage: differential [--print | --first STAGE] SEED COUNT"),
     }
 }

@@ -1,4 +1,4 @@
-//! One part of the comparison: what was compared, what differed.
+//! What was compared and what differed, by the part that is to blame.
 
 use std::sync::atomic::{AtomicBool, Ordering};
 
@@ -16,7 +16,7 @@ pub struct Part {
 }
 
 impl Part {
-    pub fn new(name: &'static str) -> Part {
+    fn new(name: &'static str) -> Part {
         Part {
             name,
             compared: 0,
@@ -49,6 +49,50 @@ impl Part {
             "{}: {} compared, {} differences",
             self.name, self.compared, self.differences
         );
+    }
+}
+
+/// What a difference is put down to.
+#[derive(Clone, Copy, PartialEq)]
+pub enum Blame {
+    Machine,
+    Reading,
+}
+
+/// Builds, runs over one and the same program, and readings.
+pub struct Parts {
+    pub builds: Part,
+    pub machine: Part,
+    pub readings: Part,
+}
+
+impl Parts {
+    pub fn new() -> Parts {
+        Parts {
+            builds: Part::new("builds"),
+            machine: Part::new("machine"),
+            readings: Part::new("readings"),
+        }
+    }
+
+    pub fn of(&mut self, blame: Blame) -> &mut Part {
+        match blame {
+            Blame::Machine => &mut self.machine,
+            Blame::Reading => &mut self.readings,
+        }
+    }
+
+    fn all(&self) -> [&Part; 3] {
+        [&self.builds, &self.machine, &self.readings]
+    }
+
+    /// Each part, then the line of all; how many differences there were.
+    pub fn print(&self) -> u64 {
+        self.all().iter().for_each(|part| part.print());
+        let compared: u64 = self.all().iter().map(|part| part.compared).sum();
+        let differences: u64 = self.all().iter().map(|part| part.differences).sum();
+        println!("{compared} compared, {differences} differences");
+        differences
     }
 }
 

@@ -3,17 +3,18 @@
 use crate::{HEADER, INSN, RECORD};
 
 /// Where the tree that starts at a record ends, if it does.
-fn end_of(records: &[&[u8]], at: usize) -> Option<usize> {
+fn end_of<R: AsRef<[u8]>>(records: &[R], at: usize) -> Option<usize> {
     let mut open = 1;
     let mut next = at;
     while open > 0 {
-        open = open - 1 + crate::parts(records.get(next)?);
+        open = open - 1 + crate::parts(records.get(next)?.as_ref());
         next += 1;
     }
     Some(next)
 }
 
-fn end(records: &[&[u8]], at: usize) -> usize {
+/// Where the tree that starts at a record of one tree ends.
+pub fn end<R: AsRef<[u8]>>(records: &[R], at: usize) -> usize {
     end_of(records, at).expect("a tree")
 }
 

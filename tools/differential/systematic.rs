@@ -4,9 +4,9 @@
 use super::edges::file_of;
 use super::*;
 
-const LINKS: [u8; 3] = [ETHERNET, RAWIP, SLL];
+pub const LINKS: [u8; 3] = [ETHERNET, RAWIP, SLL];
 
-fn with(kind: u8, bytes: &[(usize, u8)]) -> Record {
+pub fn with(kind: u8, bytes: &[(usize, u8)]) -> Record {
     let mut r = record(kind);
     for (at, value) in bytes {
         r[*at] = *value;
@@ -51,7 +51,7 @@ pub fn counts() -> impl Iterator<Item = Vec<u8>> {
     all.map(|n| file_of(LINKS[n % 3], &one_tree(n)))
 }
 
-const KINDS_AND_OTHERS: [u8; 24] = [
+pub const KINDS_AND_OTHERS: [u8; 24] = [
     0, 1, 2, 3, 4, 9, 10, 11, 12, 13, 14, 15, 16, 17, 18, 19, 20, 21, 22, 23, 24, 25, 128, 255,
 ];
 const BYTE_VALUES: [u8; 12] = [0, 1, 2, 3, 4, 5, 12, 13, 127, 128, 129, 255];

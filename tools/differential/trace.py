@@ -12,6 +12,7 @@ import sys
 sys.dont_write_bytecode = True
 sys.path.insert(0, str(pathlib.Path(__file__).resolve().parent.parent / "oracle"))
 from runs import INSERTIONS
+from words import Words, run, stop
 
 TOLD = """
 pub use trace::Words;
@@ -78,17 +79,18 @@ mod trace {
 
 
 def main():
-    vm, out = map(pathlib.Path, sys.argv[1:])
-    text = vm.read_text()
+    parser = Words(__doc__)
+    parser.add_argument("vm", type=pathlib.Path)
+    parser.add_argument("out", type=pathlib.Path)
+    args = parser.parse_args()
+    text = args.vm.read_text()
     # the last insertion is behind the oracle's own function
     for found, added in INSERTIONS[:-1]:
         if text.count(found) != 1:
-            sys.exit(f"trace.py: {vm} does not have this text once: {found}")
+            stop(f"{args.vm} does not have this text once: {found}")
         text = text.replace(found, found + added)
-    out.write_text(text + TOLD)
+    args.out.write_text(text + TOLD)
 
 
 if __name__ == "__main__":
-    if len(sys.argv) != 3:
-        sys.exit(__doc__)
-    main()
+    run(main)

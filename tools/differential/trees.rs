@@ -11,18 +11,18 @@ pub mod edges;
 #[path = "systematic.rs"]
 pub mod systematic;
 
-const AND: u8 = 1;
-const OR: u8 = 2;
-const NOT: u8 = 3;
-const ETHERNET: u8 = 1;
-const RAWIP: u8 = 2;
-const SLL: u8 = 3;
-const EITHER: u8 = 0;
-const BOTH: u8 = 3;
+pub const AND: u8 = 1;
+pub const OR: u8 = 2;
+pub const NOT: u8 = 3;
+pub const ETHERNET: u8 = 1;
+pub const RAWIP: u8 = 2;
+pub const SLL: u8 = 3;
+pub const EITHER: u8 = 0;
+pub const BOTH: u8 = 3;
 const RECORD: usize = 24;
-const MOST: usize = 128;
+pub const MOST: usize = 128;
 
-type Record = [u8; RECORD];
+pub type Record = [u8; RECORD];
 
 /// splitmix64: the same draws on every machine.
 pub struct Rng(pub u64);
@@ -44,7 +44,7 @@ impl Rng {
         low + self.below(high - low + 1)
     }
 
-    fn one_in(&mut self, n: usize) -> bool {
+    pub fn one_in(&mut self, n: usize) -> bool {
         self.below(n) == 0
     }
 
@@ -67,8 +67,8 @@ impl Rng {
 const ETHERTYPES: [u16; 7] = [0x0800, 0x86DD, 0x0806, 0x8035, 0x8100, 0x0000, 0xFFFF];
 const NUMBERS: [u8; 8] = [6, 17, 132, 1, 58, 2, 0, 255];
 const PORTS: [u16; 5] = [53, 80, 81, 0, 65535];
-const PREFIXES: [u8; 14] = [0, 1, 15, 16, 17, 32, 64, 100, 112, 113, 127, 128, 129, 255];
-const MASKS: [u32; 7] = [
+pub const PREFIXES: [u8; 14] = [0, 1, 15, 16, 17, 32, 64, 100, 112, 113, 127, 128, 129, 255];
+pub const MASKS: [u32; 7] = [
     0,
     0xFFFF_FF00,
     0xFFFF_FFFF,
@@ -77,7 +77,7 @@ const MASKS: [u32; 7] = [
     0x8000_0001,
     0x0000_FFFE,
 ];
-const ADDRS4: [u32; 6] = [
+pub const ADDRS4: [u32; 6] = [
     0x0A00_0001,
     0x0A00_00FF,
     0xC0A8_0117,
@@ -85,7 +85,7 @@ const ADDRS4: [u32; 6] = [
     0xFFFF_FFFF,
     0,
 ];
-const ADDRS6: [u128; 6] = [
+pub const ADDRS6: [u128; 6] = [
     0x20010db8000000000000000000000001,
     0x20010db8000100020003000400050006,
     0xfe80000000000000021122fffe334455,
@@ -93,16 +93,16 @@ const ADDRS6: [u128; 6] = [
     0,
     u128::MAX,
 ];
-const MACS: [u64; 4] = [0x0200_0000_00AA, 0xFFFF_FFFF_FFFF, 0x0100_5E00_0001, 0];
+pub const MACS: [u64; 4] = [0x0200_0000_00AA, 0xFFFF_FFFF_FFFF, 0x0100_5E00_0001, 0];
 
-const PORT_PROTOCOLS: [u8; 4] = [0, 5, 6, 10];
-const BAD_PORT_PROTOCOLS: [u8; 9] = [1, 2, 3, 4, 7, 8, 9, 11, 12];
+pub const PORT_PROTOCOLS: [u8; 4] = [0, 5, 6, 10];
+pub const BAD_PORT_PROTOCOLS: [u8; 9] = [1, 2, 3, 4, 7, 8, 9, 11, 12];
 
 /// The kinds, protocols and ethertypes that a file draws from.
-type Flavour = (&'static [u8], &'static [u8], &'static [u16]);
+pub type Flavour = (&'static [u8], &'static [u8], &'static [u16]);
 
 const PROTOCOLS: &[u8] = &[1, 2, 3, 4, 5, 6, 7, 8, 9, 10, 11, 12];
-const ALL: Flavour = (
+pub const ALL: Flavour = (
     &[10, 11, 12, 13, 14, 15, 16, 17, 18, 19, 20, 21, 22, 23, 24],
     PROTOCOLS,
     &ETHERTYPES,
@@ -128,35 +128,35 @@ const KINDS: Flavour = (&[10, 10, 18, 23, 24], PROTOCOLS, &ETHERTYPES);
 const ETHER: Flavour = (&[10, 17, 17, 18, 19], &[1, 2, 3, 4], &ETHERTYPES);
 const FLAVOURS: [Flavour; 8] = [ALL, V4, V6, BOTH_PORTS, PORTS6, PORTS4, KINDS, ETHER];
 
-fn record(kind: u8) -> Record {
+pub fn record(kind: u8) -> Record {
     let mut r = [0; RECORD];
     r[0] = kind;
     r
 }
 
-fn put(r: &mut Record, at: usize, bytes: &[u8]) {
+pub fn put(r: &mut Record, at: usize, bytes: &[u8]) {
     r[at..at + bytes.len()].copy_from_slice(bytes);
 }
 
 /// The few values that one file uses.
-struct Values {
+pub struct Values {
     kinds: Vec<u8>,
     protocols: Vec<u8>,
     ethertypes: Vec<u16>,
     numbers: Vec<u8>,
     ports: Vec<u16>,
     port_protocols: Vec<u8>,
-    directions: Vec<u8>,
+    pub directions: Vec<u8>,
     addrs4: Vec<u32>,
     addrs6: Vec<u128>,
     macs: Vec<u64>,
     masks: Vec<u32>,
-    prefixes: Vec<u8>,
+    pub prefixes: Vec<u8>,
     pool: Vec<Record>,
 }
 
 impl Values {
-    fn new(rng: &mut Rng, (kinds, protocols, ethertypes): Flavour) -> Values {
+    pub fn new(rng: &mut Rng, (kinds, protocols, ethertypes): Flavour) -> Values {
         let first = &ethertypes[..ethertypes.len().min(3)];
         Values {
             kinds: if rng.one_in(2) {
@@ -241,7 +241,7 @@ fn address_leaf(rng: &mut Rng, v: &Values, kind: u8) -> Record {
     r
 }
 
-fn leaf(rng: &mut Rng, v: &Values, kind: u8) -> Record {
+pub fn leaf(rng: &mut Rng, v: &Values, kind: u8) -> Record {
     let mut r = record(kind);
     match kind {
         10 => return protocol_leaf(rng, v),
@@ -489,7 +489,7 @@ const FAMILIES: [&[u8]; 6] = [
 ];
 
 /// And and or in turn, from the left: short jumps, a long program.
-fn ladder_file(rng: &mut Rng) -> (u8, Vec<Record>) {
+pub fn ladder_file(rng: &mut Rng) -> (u8, Vec<Record>) {
     let link = rng.pick(&[ETHERNET, SLL]);
     let mut v = Values::new(rng, ALL);
     v.directions = vec![EITHER, EITHER, rng.below(4) as u8];

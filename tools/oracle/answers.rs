@@ -280,9 +280,11 @@ fn tree(records: &mut std::vec::IntoIter<&[u8]>) -> Expr {
 
 // ── The two answers ──────────────────────────────────────────────────────────
 
+/// Ends with 2: nothing was answered.
 fn fail(message: &str) -> ! {
-    eprintln!("oracle: {message}");
-    std::process::exit(1)
+    let program = std::env::args().next().unwrap_or_default();
+    eprintln!("{program}: {message}");
+    std::process::exit(2)
 }
 
 /// The number of an error of the Rust, by its text.

@@ -24,6 +24,7 @@ import inputs
 import trees
 from trees import AND, BOTH, DESTINATION, EITHER, ETHERNET, NOT, OR, RAWIP, RECORD, SLL, SOURCE
 from trees import Rng, half, header, record
+from words import stop, stored
 
 REPOSITORY = HERE.parent.parent
 ORACLE = REPOSITORY / "target" / "oracle" / "oracle"
@@ -41,11 +42,12 @@ Case = collections.namedtuple("Case", "file refusal program")
 
 def ask(files):
     if not ORACLE.exists():
-        sys.exit("builds.py: first build the oracle, tools/oracle/build SRC")
+        stop("first build the oracle, tools/oracle/build SRC")
     lines = "".join(file.hex() + "\n" for file in files)
-    done = subprocess.run([ORACLE, "build"], input=lines, capture_output=True, check=True, text=True)
+    done = subprocess.run([ORACLE, "build"], input=lines, capture_output=True, text=True)
     answers = [line.split() for line in done.stdout.splitlines()]
-    assert len(answers) == len(files)
+    if done.returncode or len(answers) != len(files):
+        stop(f"the oracle failed: {done.stderr.strip()}")
     return [case_of(file, *answer) for file, answer in zip(files, answers)]
 
 
@@ -309,7 +311,7 @@ def check_coverage(groups):
     # tools/differential/README.md: there are 193 conditions that can be accepted
     wanted = list(range(9)), (255, 255, 255), 193, trees.MOST
     if found != wanted:
-        sys.exit(f"builds.py: covered are {found}, not {wanted}")
+        stop(f"covered are {found}, not {wanted}")
 
 
 # ── The file ─────────────────────────────────────────────────────────────────
@@ -368,16 +370,5 @@ def show(directory):
             print(f"{name} {index}: {answer} [{file[start:end].hex()}] [{file[end:at].hex(' ', 8)}]")
 
 
-def main():
-    words = sys.argv[1:]
-    if not 1 <= len(words) <= 2:
-        sys.exit(__doc__)
-    directory = pathlib.Path(words[1]) if len(words) == 2 else CRATE
-    if words[0] == "--show":
-        show(directory)
-    else:
-        make(int(words[0]), directory)
-
-
 if __name__ == "__main__":
-    main()
+    stored(__doc__, CRATE, make, show)

@@ -17,6 +17,7 @@ import sys
 
 sys.dont_write_bytecode = True
 from trees import Rng
+from words import stop, stored
 
 REPOSITORY = pathlib.Path(__file__).resolve().parent.parent.parent
 ORACLE = REPOSITORY / "target" / "oracle" / "oracle"
@@ -91,7 +92,7 @@ mod trace {
 def build_traced():
     """Builds the oracle once more, over the copy with the insertions."""
     if not ORACLE.exists():
-        sys.exit("runs.py: first build the oracle, tools/oracle/build SRC")
+        stop("first build the oracle, tools/oracle/build SRC")
     copies, traced = ORACLE.with_suffix(".d"), TRACED.with_suffix(".d")
     traced.mkdir(exist_ok=True)
     for path in copies.iterdir():
@@ -99,19 +100,21 @@ def build_traced():
     text = (copies / "vm.rs").read_text()
     for found, added in INSERTIONS:
         if text.count(found) != 1:
-            sys.exit(f"runs.py: vm.rs does not have this text once: {found}")
+            stop(f"vm.rs does not have this text once: {found}")
         text = text.replace(found, found + added)
     (traced / "vm.rs").write_text(text + TRACE)
     words = ["rustc", "-O", "--edition", "2021", "-o", TRACED, traced / "main.rs"]
-    subprocess.run(words, check=True)
+    if subprocess.run(words).returncode:
+        stop("rustc failed")
 
 
 def ask(program, runs):
     """The lines that an oracle answers for pairs of a program and a frame."""
     lines = "".join(f"{p.hex() or '-'} {f.hex() or '-'}\n" for p, f in runs)
-    done = subprocess.run([program, "run"], input=lines, capture_output=True, check=True, text=True)
+    done = subprocess.run([program, "run"], input=lines, capture_output=True, text=True)
     answers = done.stdout.splitlines()
-    assert len(answers) == len(runs)
+    if done.returncode or len(answers) != len(runs):
+        stop(f"{program} failed: {done.stderr.strip()}")
     return answers
 
 
@@ -137,7 +140,7 @@ def ask_both(runs):
     traced = [said(line) for line in ask(TRACED, runs)]
     for run, line, t in zip(runs, plain, traced):
         if line != (f"refused {t.refusal}" if t.refusal else t.answer):
-            sys.exit(f"runs.py: vm.rs and its copy differ on {run}")
+            stop(f"vm.rs and its copy differ on {run}")
     return traced
 
 
@@ -603,7 +606,7 @@ def check_expected(rows, told):
     for (program, frame, *want), s in zip(rows, told):
         got = [s.verdict, s.steps] if len(want) == 2 else [s.refusal or s.verdict]
         if got != want:
-            sys.exit(f"runs.py: {program.hex()} {frame[:100].hex()} is {got}, not {want}")
+            stop(f"{program.hex()} {frame[:100].hex()} is {got}, not {want}")
 
 
 def group_bytes(rows):
@@ -644,16 +647,5 @@ def show(directory):
             print(f"{name} {index}:", *words, f"[{program} +{more_p}] [{file[start + p : at].hex()} +{more_f}]")
 
 
-def main():
-    words = sys.argv[1:]
-    if not 1 <= len(words) <= 2:
-        sys.exit(__doc__)
-    directory = pathlib.Path(words[1]) if len(words) == 2 else CRATE
-    if words[0] == "--show":
-        show(directory)
-    else:
-        make(int(words[0]), directory)
-
-
 if __name__ == "__main__":
-    main()
+    stored(__doc__, CRATE, make, show)

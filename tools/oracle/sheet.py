@@ -3,8 +3,9 @@
 
 tools/oracle/sheet.py [ORACLE]     (target/oracle/oracle when left out)
 
-Prints each line with its outcome; ends with 1 if one differs. Step counts are
-not asked: `inner` does not tell them, and its None is the sheet's short.
+Prints each line with its outcome; ends with 1 if one differs, with 2 if the oracle
+cannot be asked. Step counts are not asked: `inner` does not tell them, and its
+None is the sheet's short.
 """
 import pathlib
 import subprocess
@@ -13,6 +14,7 @@ import sys
 sys.dont_write_bytecode = True
 from trees import AND, BOTH, DESTINATION, EITHER, ETHERNET, NOT, OR, RAWIP, SOURCE
 from trees import half, header, record
+from words import Words, run as run_command, stop
 
 HERE = pathlib.Path(__file__).resolve().parent
 DEFAULT = HERE.parent.parent / "target" / "oracle" / "oracle"
@@ -47,7 +49,9 @@ def far(last):
 
 
 def ask(oracle, command, text):
-    done = subprocess.run([oracle, command], input=text, capture_output=True, check=True)
+    done = subprocess.run([oracle, command], input=text, capture_output=True)
+    if done.returncode:
+        stop(done.stderr.decode().strip() or f"{oracle} failed")
     return done.stdout.decode()
 
 
@@ -119,13 +123,15 @@ def lines(oracle):
 
 
 def main():
-    oracle = sys.argv[1] if len(sys.argv) > 1 else str(DEFAULT)
+    parser = Words(__doc__)
+    parser.add_argument("oracle", nargs="?", default=str(DEFAULT))
+    oracle = parser.parse_args().oracle
     wrong = 0
     for words, good in lines(oracle):
         print("ok  " if good else "BAD ", words)
         wrong += not good
-    sys.exit(1 if wrong else 0)
+    return 1 if wrong else 0
 
 
 if __name__ == "__main__":
-    main()
+    run_command(main)

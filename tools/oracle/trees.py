@@ -8,8 +8,10 @@ files pass checks 1 to 4; about a tenth are damaged. Of the others some hold a
 condition that the link or the port cannot take (5, 6, 7), and some have
 jumps of about 255. --small keeps to nine records.
 """
-import argparse
 import sys
+
+sys.dont_write_bytecode = True
+from words import Words, number, run
 
 AND, OR, NOT = 1, 2, 3
 ETHERNET, RAWIP, SLL = 1, 2, 3
@@ -483,11 +485,11 @@ def tree_file(rng, most):
 
 
 def main():
-    parser = argparse.ArgumentParser(description="random tree files in hex")
-    parser.add_argument("seed", type=int)
-    parser.add_argument("count", type=int)
-    parser.add_argument("--max-records", type=int, default=MOST, metavar="N")
-    parser.add_argument("--small", action="store_true", help="at most nine records")
+    parser = Words(__doc__)
+    parser.add_argument("seed", type=number)
+    parser.add_argument("count", type=number)
+    parser.add_argument("--max-records", type=number, default=MOST)
+    parser.add_argument("--small", action="store_true")
     args = parser.parse_args()
     most = min(args.max_records, SMALL if args.small else MOST)
     if most < 1:
@@ -498,4 +500,4 @@ def main():
 
 
 if __name__ == "__main__":
-    main()
+    run(main)

@@ -1,7 +1,7 @@
 // What pft-run says: a tree file and frame files by name, the program's run over each frame, and the direct reading.
+use build::BuildResult;
 use direct::DirectResult;
 use error::Refusal;
-use pft::BuildResult;
 use vm::Outcome;
 use vm::RunResult;
 use vm::Verdict;
@@ -266,7 +266,7 @@ fn is_tree(r: Refusal) -> bool {
 
 fn with_tree(name: &[u8], tree: &[u8], from: usize, to: usize, o: Output) {
     let mut program = [0u8; 32768];
-    match pft::build(tree, &mut program) {
+    match build::build(tree, &mut program) {
         BuildResult::Count(count) => {
             let n = 8 * count as usize;
             try_arguments(from, to, tree, first(&program, n), o);

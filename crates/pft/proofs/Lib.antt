@@ -1,4 +1,1 @@
-pub mod Sheet
-pub mod Demands
 pub mod Numbers
-pub mod Building

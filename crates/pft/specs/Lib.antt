@@ -1,4 +1,1 @@
-pub mod Build
-pub mod Demands
 pub mod Numbers
-pub mod Promises

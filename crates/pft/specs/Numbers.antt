@@ -7,8 +7,12 @@ use Rattle.vm.specs.declared.RunResult.the-variants.{Ran, Refused}
 use Rattle.vm.specs.Machine.{numberOfVerdict}
 use Rattle.direct.specs.declared.DirectResult.{DirectResult}
 use Rattle.direct.specs.declared.DirectResult.the-variants as D
-use Rattle.pft.specs.declared.BuildResult.{BuildResult}
-use Rattle.pft.specs.declared.BuildResult.the-variants as B
+use Rattle.build.specs.declared.BuildResult.{BuildResult}
+use Rattle.build.specs.declared.BuildResult.the-variants as B
+
+-- the number of this interface: a landing that adds to it raises it by one
+abbrev pub version : ℕ
+version = 1
 
 -- "verdict × 65,536 + steps, verdict 1 accepted, 2 dropped, 3 short, 4 broken; for a refused run (256 + refusal number) × 65,536"
 abbrev pub runNumber : RunResult → ℕ

@@ -22,10 +22,10 @@ use Rattle.output.proofs.Parts.{bytes-length}
 use Rattle.compile.specs.declared.Compiled.{Compiled}
 use Rattle.compile.specs.declared.Compiled.the-variants as C
 use Rattle.compile.specs.Walks.{Programs, Compiles, Ready}
-use Rattle.pft.specs.declared.BuildResult.{BuildResult}
-use Rattle.pft.specs.declared.BuildResult.the-variants.{Count, Refused}
-use Rattle.pft.specs.Build.{into, program, build}
-use Rattle.pft.specs.Promises.{Cleared, Checked, Into}
+use Rattle.build.specs.declared.BuildResult.{BuildResult}
+use Rattle.build.specs.declared.BuildResult.the-variants.{Count, Refused}
+use Rattle.build.specs.Build.{into, program, build}
+use Rattle.build.specs.Promises.{Cleared, Checked, Into}
 
 -- ---- what was compiled
 

@@ -20,7 +20,7 @@ use Rattle.codegen.specs.Guards.{primitiveGuards, requiredGuards}
 use Rattle.codegen.specs.Block.{settle, turn, otherwise, far, writesX, assemble}
 use Rattle.codegen.specs.Emit as E
 use Rattle.codegen.specs.Compile.{finished, compile}
-use Rattle.pft.specs.Build.{Built, program, build, listing, refusalOf, countOf}
+use Rattle.build.specs.Build.{Built, program, build, listing, refusalOf, countOf}
 
 -- ---- tree files
 
@@ -148,7 +148,7 @@ sheet =
     ∷ (6 ∷ 0 ∷ 0 ∷ 0 ∷ [])
     ∷ [])
     ∷ [])
-    ∷ row (rawIp Ip) (count 2 ∷ [])
+    ∷ row (rawIp Ip) (lists ((2 ∷ []) ∷ (6 ∷ 0 ∷ 0 ∷ 4294967295 ∷ []) ∷ (6 ∷ 0 ∷ 0 ∷ 0 ∷ []) ∷ []) ∷ [])
     ∷ row (ethernet Ip)
     (count 4 ∷ jf 1 1 ∷ ran (replicate 13 0) Short 1 ∷ ran (replicate 12 0 ++ (8 ∷ 0 ∷ [])) Accepted 3 ∷ [])
     ∷ row (ethernet (or Tcp Udp)) (count 9 ∷ jf 6 1 ∷ jf 1 3 ∷ jf 1 6 ∷ ja 2 4 ∷ [])

@@ -1,6 +1,6 @@
 -- Demands 1 and 3 hold of every tree file.
 use Prim.Native.Nat.{ℕ, _+_, _*_, _-_, _≤_, _<_}
-use mathlib.Core.Path.{_≡_, refl, sym, ap, _∙_}
+use mathlib.Core.Path.{_≡_, refl, sym, ap, _∙_, subst}
 use mathlib.Core.List.{List, _++_}
 use mathlib.Core.Bool.{Bool, true, false, cond}
 use mathlib.Core.Logic.{_↔_, _⊎_, inl, inr}
@@ -8,7 +8,7 @@ use native.Mathlib.Omega.{arith}
 use lib.ListN.{length, replicate, take, drop, take-append-drop}
 use lib.Seq.{take-at, take-length}
 use lib.Dec.{ltb}
-use borrow.Author.Tests.{ltb-false, lt-ltb, le-ltb}
+use borrow.Author.Tests.{ltb-false, ltb-true, lt-ltb, le-ltb}
 use Rattle.error.specs.declared.Refusal.{Refusal}
 use Rattle.error.specs.declared.Refusal.the-variants.{ShortBuffer}
 use Rattle.error.specs.Answer.{Out, refused, done, numberOf}
@@ -36,10 +36,22 @@ use Rattle.codegen.proofs.Conditions.{start}
 use Rattle.codegen.proofs.Refusals.{compile-turned}
 use Rattle.codegen.proofs.Sound.{Sound, compile-sound}
 use Rattle.codegen.proofs.Tells.{Tells, compile-tells}
-use Rattle.pft.specs.declared.BuildResult.{BuildResult}
-use Rattle.pft.specs.declared.BuildResult.the-variants.{Count, Refused}
-use Rattle.pft.specs.Build.{rejected, placed, tooShort, into, program, build}
-use Rattle.pft.specs.Demands.{Answers, programOf, Frame, Begins, Gets, ReadsPast, Demand1, Decided, Demand3, Demands}
+use Rattle.build.specs.declared.BuildResult.{BuildResult}
+use Rattle.build.specs.declared.BuildResult.the-variants.{Count, Refused}
+use Rattle.build.specs.Build.{rejected, placed, tooShort, into, program, build}
+use Rattle.build.specs.Demands as D
+use Rattle.build.specs.Demands.{Calls, Kept, Frame, Begins, Demand1, Demand3, Demands}
+
+-- ---- the definitions' own answers, of which the demands are proved first
+
+abbrev defined : List ℕ → Calls
+defined T = record { answer = λ lent. build T lent .answer; buffer = λ lent. build T lent .buffer; ran = run; read = direct T }
+
+abbrev Answers : List ℕ → ℕ → ℕ → Type 0
+Answers T = D.Answers (defined T)
+
+abbrev programOf : List ℕ → ℕ → ℕ → List ℕ
+programOf T = D.programOf (defined T)
 
 -- ---- a file's program
 
@@ -111,12 +123,12 @@ zeroed (done p) lent r e = go (tooShort lent p) e
 refusal : {r s : Refusal} → _≡_ {A = BuildResult} (Refused r) (Refused s) → r ≡ s
 refusal e = cc
 
-steady : (o : Out (List Insn)) (lent : ℕ) (r : Refusal) → into lent o .answer ≡ Refused r → numberOf r < 9 → (other : ℕ) → into other o .answer ≡ Refused r
+steady : (o : Out (List Insn)) (lent : ℕ) (r : Refusal) → into lent o .answer ≡ Refused r → ¬ (numberOf r ≡ 9) → (other : ℕ) → into other o .answer ≡ Refused r
 steady (refused s) lent r e h other = e
 steady (done p) lent r e h other = go (tooShort lent p) e
   where
     go : (b : Bool) → cond b (rejected lent ShortBuffer) (placed lent p) .answer ≡ Refused r → into other (done p) .answer ≡ Refused r
-    go true e = absurd (omega (arith, ap numberOf (refusal e)))
+    go true e = absurd (h (sym (ap numberOf (refusal e))))
     go false e = never (sym e)
 
 -- the number of a refusal
@@ -138,6 +150,17 @@ numbered (done p) lent r h e = go (tooShort lent p) e
     go : (b : Bool) → cond b (rejected lent ShortBuffer) (placed lent p) .answer ≡ Refused r → (1 ≤ numberOf r) × (numberOf r ≤ 9)
     go true e = omega (arith, ap numberOf (refusal e))
     go false e = never (sym e)
+
+last-of : (o : Out (List Insn)) (lent : ℕ) → Turned OneToEight o → into lent o .answer ≡ Refused ShortBuffer
+    → (count : ℕ) × (lent < 8 * count) × (into (8 * count) o .answer ≡ Count count)
+unfolding OneToEight
+last-of (refused s) lent h e = absurd (omega (arith, ap numberOf (refusal e)))
+last-of (done p) lent h e = go (tooShort lent p) refl e
+  where
+    go : (b : Bool) → tooShort lent p ≡ b → cond b (rejected lent ShortBuffer) (placed lent p) .answer ≡ Refused ShortBuffer
+        → (count : ℕ) × (lent < 8 * count) × (into (8 * count) (done p) .answer ≡ Count count)
+    go true t e = (length p, ltb-true lent (8 * length p) t, more p (8 * length p) (omega arith))
+    go false t e = never (sym e)
 
 same-program : {o : Out (List Insn)} {p q : List Insn} → o ≡ done p → o ≡ done q → p ≡ q
 same-program e h = cc
@@ -205,7 +228,7 @@ module _ (T : List ℕ) (z : AreBytes T) where
   unfolding build
   built p e lent = ap (into lent) e
 
-  demand-1 : Demand1 T
+  demand-1 : Demand1 (defined T)
   demand-1 =
       record {
         yields = λ lent count a. let q = answered lent count a in omega (arith, q .met .sound .least, q .met .sound .most, q .size);
@@ -214,6 +237,7 @@ module _ (T : List ℕ) (z : AreBytes T) where
         refuses = λ lent r e. unfold build in numbered (program T) lent r (program-turned T) e;
         enough = λ lent count a other h. let q = answered lent count a in enough-at q other h;
         short = λ lent count a other h. let q = answered lent count a in short-at q other h;
+        last = λ lent e. unfold build in last-of (program T) lent (program-turned T) e;
         fixed = λ lent r e h other. unfold build in steady (program T) lent r e h other;
         zeroes = λ lent r e. unfold build in zeroed (program T) lent r e;
       }
@@ -246,10 +270,10 @@ module _ (T : List ℕ) (z : AreBytes T) where
     verdict F = inner (q .p) F .verdict
 
     -- the verdict of a run within the limit
-    gets : (F : List ℕ) → length F ≤ 65535 → (v : Verdict) → Gets P F v ↔ (verdict F ≡ v)
+    gets : (F : List ℕ) → length F ≤ 65535 → (v : Verdict) → D.Gets (defined T) P F v ↔ (verdict F ≡ v)
     gets F h v = (λ g. rw (q .runs F h) at g, λ g. rw (q .runs F h) g)
 
-    not-short : (F : List ℕ) → length F ≤ 65535 → ¬ ReadsPast P F → verdict F ≡ Short → ⊥
+    not-short : (F : List ℕ) → length F ≤ 65535 → ¬ D.ReadsPast (defined T) P F → verdict F ≡ Short → ⊥
     not-short F h n e = n (gets F h Short .1 e)
 
     -- a run that is not short is the same on a frame that begins so
@@ -257,7 +281,7 @@ module _ (T : List ℕ) (z : AreBytes T) where
     grows F G b n =
         ap verdict (sym (take-append-drop (length F) G) ∙ ap (λ s. s ++ drop (length F) G) b) ∙ ap (λ o. o .verdict) (q .met .sound .grows F (drop (length F) G) n)
 
-    decides : (F G : List ℕ) → Frame F → Frame G → Begins G F → (verdict F ≡ Short → ⊥) → Decided T P F G
+    decides : (F G : List ℕ) → Frame F → Frame G → Begins G F → (verdict F ≡ Short → ⊥) → D.Decided (defined T) P F G
     decides F G f g b n =
         let t = q .met .filter in
         let same = grows F G b n in
@@ -270,16 +294,19 @@ module _ (T : List ℕ) (z : AreBytes T) where
           either = given (gets F (f .1) Accepted .1) (gets F (f .1) Dropped .1) (one-of r (verdict F) e);
         }
 
+    linked : header T ≡ done (q .met .filter .link)
+    linked = parse-header T (q .met .filter) (q .met .parsed)
+
     all-of-it : (F : List ℕ) → Begins F F
     all-of-it F = take-length F
 
     long : (F : List ℕ) (link : LinkType) → header T ≡ done link → networkStart link + 64 ≤ length F → verdict F ≡ Short → ⊥
     long F link e h =
         let t = q .met .filter in
-        let same : link ≡ t .link = same-link e (parse-header T t (q .met .parsed)) in
+        let same : link ≡ t .link = same-link e linked in
         q .met .sound .long F (omega (arith, ap networkStart same, start (t .link)))
 
-    demand-3 : (F G : List ℕ) → Frame F → Frame G → Begins G F → Demand3 T P F G
+    demand-3 : (F G : List ℕ) → Frame F → Frame G → Begins G F → Demand3 T (defined T) P F G
     demand-3 F G f g b =
         record {
           same = λ n v. let e = grows F G b (not-short F (f .1) n) in
@@ -288,10 +315,15 @@ module _ (T : List ℕ) (z : AreBytes T) where
           monotone = λ h.
               let k = gets F (f .1) Accepted .0 h in
               gets G (g .1) Accepted .1 (grows F G b (accepted-short (verdict F) k) ∙ k);
-          reaches = λ link e h r. long F link e h (gets F (f .1) Short .0 r);
+          reaches = (q .met .filter .link, linked, λ h r. long F (q .met .filter .link) linked h (gets F (f .1) Short .0 r));
           there = λ link e h. decides F F f f (all-of-it F) (long F link e h);
         }
 
--- demands 1 and 3, of every tree file
-pub demands : (T : List ℕ) → AreBytes T → Demands T
-demands T z = record { first = demand-1 T z; third = λ lent count a. demand-3 T z lent count (answered T z lent count a) }
+-- demands 1 and 3, of every tree file and of all calls that keep their promises
+pub demands : (T : List ℕ) → AreBytes T → (c : Calls) → Kept T c → Demands T c
+demands T z c k =
+    subst (Demands T) (sym same)
+    (record { first = demand-1 T z; third = λ lent count a. demand-3 T z lent count (answered T z lent count a) })
+  where
+    same : c ≡ defined T
+    same i = record { answer = λ lent. k .answers lent i; buffer = λ lent. k .leaves lent i; ran = λ P F. k .runs P F i; read = λ F. k .reads F i }

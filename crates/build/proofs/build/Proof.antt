@@ -7,9 +7,9 @@ use Rattle.ast.proofs.Bounds.{parse-proper}
 use Rattle.ast.proofs.Walk.{parse-records}
 use Rattle.reader.specs.Reader.{treeOf}
 use Rattle.reader.proofs.Checks.{check-link, check-refused}
-use Rattle.pft.proofs.Building.{cleared, builds, program-of, program-refused, into-refused}
-use Rattle.pft.proofs.build.Statement.{statement}
-use Rattle.pft.proofs.build.Tie as tie
+use Rattle.build.proofs.Building.{cleared, builds, program-of, program-refused, into-refused}
+use Rattle.build.proofs.build.Statement.{statement}
+use Rattle.build.proofs.build.Tie as tie
 
 place-small-requires : tie.Need-place-small-requires
 place-small-requires c κs = let a = c .before .before .before .before .before .before .before .before .before .before .before .before .args in

@@ -2,9 +2,9 @@ use borrow.Author.Needs.{needs}
 use native.Mathlib.Omega.{arith}
 use mathlib.Core.Path.{_≡_, refl, sym, ap, _∙_}
 use lib.ListN.{length}
-use Rattle.pft.proofs.Building.{held, not-made, held-fits, into-refused, into-short, into-placed}
-use Rattle.pft.proofs.place.Statement.{statement}
-use Rattle.pft.proofs.place.Tie as tie
+use Rattle.build.proofs.Building.{held, not-made, held-fits, into-refused, into-short, into-placed}
+use Rattle.build.proofs.place.Statement.{statement}
+use Rattle.build.proofs.place.Tie as tie
 
 compile-requires : tie.Need-compile-requires
 compile-requires c κs = c .before .before .before .before .before .before .before .before .before .before .pre .0

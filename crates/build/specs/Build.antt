@@ -11,8 +11,8 @@ use Rattle.bpf.specs.declared.Insn.{Insn}
 use Rattle.bpf.specs.Program.{programBytes}
 use Rattle.ast.specs.File.{parse}
 use Rattle.codegen.specs.Compile.{compile}
-use Rattle.pft.specs.declared.BuildResult.{BuildResult}
-use Rattle.pft.specs.declared.BuildResult.the-variants.{Count, Refused}
+use Rattle.build.specs.declared.BuildResult.{BuildResult}
+use Rattle.build.specs.declared.BuildResult.the-variants.{Count, Refused}
 
 -- what a build leaves: its answer, and every byte of the lent buffer
 pub record Built : Type 0 where

@@ -9,8 +9,8 @@ use Rattle.ast.specs.Tree.{records}
 use Rattle.ast.specs.File.{countOf}
 use Rattle.ast.proofs.Proper.{Proper}
 use Rattle.reader.specs.Reader.{Here, treeOf, endOf}
-use Rattle.pft.specs.declared.BuildResult.{BuildResult}
-use Rattle.pft.specs.Build.{into}
+use Rattle.build.specs.declared.BuildResult.{BuildResult}
+use Rattle.build.specs.Build.{into}
 
 -- a buffer of zeros
 pub record Cleared (b : List ℕ) : Type 0 where

@@ -1,0 +1,3 @@
+pub mod Build
+pub mod Demands
+pub mod Promises
