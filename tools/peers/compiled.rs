@@ -1,7 +1,7 @@
 //! Holds trees to libpcap's compiler: our program, our direct reading and libpcap's program for the
 //! same words judge the same frames.
 
-use std::collections::HashSet;
+use std::collections::{BTreeMap, HashSet};
 
 use dabberpearl::{direct, Instruction, Program, Refusal, Verdict};
 
@@ -9,15 +9,19 @@ use crate::frames::Maker;
 use crate::libpcap::{self, Compiler, Insn};
 use crate::pool::Pool;
 use crate::shrink::{shrink, Case, ENOUGH};
-use crate::tree::{frame_text, tree_text, Tree};
+use crate::traps::trap;
+use crate::tree::{frame_text, tree_text, Record, Tree, NOT};
 use crate::trees::Rng;
 use crate::values::{self, network, Values};
 
-/// Frames for each tree: made for it, and from the pool.
+/// Frames for each tree: made for it, traps for its words, and from the pool.
 const MADE: usize = 24;
+const TRAPS: usize = 8;
 const DRAWN: usize = 256;
-/// How many differences are shown, and faults of libpcap's optimizer of each sort.
+/// How many differences are shown.
 const SHOWN: u64 = 10;
+/// How many faults of libpcap's optimizer of each sort are made small, and shown.
+const SHRUNK_FAULTS: u64 = 200;
 const SHOWN_FAULTS: usize = 3;
 
 // ── One tree ─────────────────────────────────────────────────────────────────
@@ -118,8 +122,8 @@ pub struct Met {
     fault_trees: u64,
     /// Frames that libpcap's optimizer loses, and that it lets through.
     fault_frames: [u64; 2],
-    /// Those shown of both, by the kinds of their smallest tree.
-    faults: [HashSet<Vec<u8>>; 2],
+    /// Rows for both, by the kinds of their smallest tree.
+    faults: [BTreeMap<Vec<u8>, String>; 2],
 }
 
 impl Met {
@@ -147,8 +151,13 @@ impl Met {
         let [accepted, dropped, short] = self.short;
         println!("trees in words: {ethernet} of Ethernet, {raw} of RawIp, {sll} of LinuxSll");
         println!(
-            "  of up to {} records, {} different conditions, {} of {} conditions said by bytes; {} others refused with 8",
-            self.records, self.conditions.len(), self.by_bytes, self.leaves, self.far
+            "  of up to {} records, {} different conditions, {} of {} conditions said by bytes; \
+             {} others refused with 8",
+            self.records,
+            self.conditions.len(),
+            self.by_bytes,
+            self.leaves,
+            self.far
         );
         println!(
             "  programs of up to {} instructions here, {} by libpcap without its optimizer",
@@ -159,14 +168,27 @@ impl Met {
             self.frames, self.accepted
         );
         println!(
-            "  shorter frames, here and in libpcap: accepted and accepted {}, accepted and dropped {}, dropped and dropped {}, short and dropped {}, short and accepted {}",
+            "  shorter frames, here and in libpcap: accepted and accepted {}, accepted and dropped {}, \
+             dropped and dropped {}, short and dropped {}, short and accepted {}",
             accepted[1], accepted[0], dropped[0], short[0], short[1]
         );
+        self.print_faults();
+    }
+
+    fn print_faults(&self) {
         let [lost, let_through] = self.fault_frames;
         println!(
-            "  libpcap's optimizer against libpcap without it: in {} trees {lost} frames lost, {let_through} let through",
+            "  libpcap's optimizer against libpcap without it: in {} trees {lost} frames lost, \
+             {let_through} let through",
             self.fault_trees
         );
+        for sort in &self.faults {
+            let mut rows: Vec<&String> = sort.values().collect();
+            rows.sort_by_key(|row| row.len());
+            for row in rows.iter().take(SHOWN_FAULTS) {
+                println!("    {row}");
+            }
+        }
     }
 }
 
@@ -225,9 +247,15 @@ impl<'a> Compiled<'a> {
                 self.frames(&judge, &tree, drawn);
             }
             Err(Unjudged::Refused(Refusal::FarJump)) => self.met.far += 1,
-            Err(Unjudged::Refused(refusal)) => self.differs(&refusal.to_string()),
-            Err(Unjudged::Words(what)) => self.differs(&what),
+            Err(Unjudged::Refused(refusal)) => self.untaken(&refusal.to_string()),
+            Err(Unjudged::Words(what)) => self.untaken(&what),
         }
+    }
+
+    /// A tree that the build or libpcap ought to take.
+    fn untaken(&mut self, what: &str) {
+        self.met.trees += 1;
+        self.differs(what);
     }
 
     fn differs(&mut self, what: &str) {
@@ -242,7 +270,8 @@ impl<'a> Compiled<'a> {
     fn frames(&mut self, judge: &Judge, tree: &Tree, drawn: &[&[u8]]) {
         let instructions: Vec<Instruction> = judge.ours.instructions().collect();
         let maker = Maker::new(&judge.file, &instructions);
-        let made: Vec<Vec<u8>> = (0..MADE).map(|_| maker.frame(&mut self.rng)).collect();
+        let mut made: Vec<Vec<u8>> = (0..MADE).map(|_| maker.frame(&mut self.rng)).collect();
+        made.extend((0..TRAPS).map(|_| self.trap(judge.link, tree)));
         let made = made.iter().map(|f| &f[..]);
         let (differences, faults) = (self.met.differences, self.met.fault_frames);
         for frame in drawn.iter().copied().chain(made) {
@@ -250,6 +279,13 @@ impl<'a> Compiled<'a> {
         }
         self.met.told_apart += (self.met.differences > differences) as u64;
         self.met.fault_trees += (self.met.fault_frames != faults) as u64;
+    }
+
+    fn trap(&mut self, link: u8, tree: &Tree) -> Vec<u8> {
+        let records = tree.records();
+        let conditions: Vec<&Record> = records.iter().filter(|r| r[0] > NOT).collect();
+        let condition = self.rng.pick(&conditions);
+        trap(&mut self.rng, link, condition)
     }
 
     fn frame(&mut self, judge: &Judge, tree: &Tree, frame: &[u8]) {
@@ -271,8 +307,7 @@ impl<'a> Compiled<'a> {
         if answers.differ() {
             self.show_difference(judge, tree, frame);
         } else if answers.fault() {
-            self.met.fault_frames[answers.optimized as usize] += 1;
-            self.show_fault(judge, tree, frame, answers.optimized);
+            self.note_fault(judge, tree, frame, answers.optimized);
         }
         answers.direct
     }
@@ -308,19 +343,19 @@ impl<'a> Compiled<'a> {
         self.differs(&format!("differs: {row}"));
     }
 
-    /// One for each shape of its smallest tree.
-    fn show_fault(&mut self, judge: &Judge, tree: &Tree, frame: &[u8], let_through: bool) {
+    /// Counts a fault of libpcap's optimizer, and keeps one of each shape.
+    fn note_fault(&mut self, judge: &Judge, tree: &Tree, frame: &[u8], let_through: bool) {
         let sort = let_through as usize;
-        if self.met.faults[sort].len() >= SHOWN_FAULTS || self.spoils {
+        self.met.fault_frames[sort] += 1;
+        if self.met.fault_frames[sort] > SHRUNK_FAULTS || self.spoils {
             return;
         }
-        let case = case(judge, tree, frame);
         let fault = |a: &Answers| a.fault() && a.optimized == let_through;
+        let case = case(judge, tree, frame);
         let case = shrink(case, &|c| shows(&self.compiler, c, &fault));
         let kinds = case.tree.records().iter().map(|r| r[0]).collect();
-        if self.met.faults[sort].insert(kinds) {
-            println!("libpcap's optimizer: {}", self.row(&case));
-        }
+        let row = self.row(&case);
+        self.met.faults[sort].entry(kinds).or_insert(row);
     }
 
     /// A row of a table: tree, frame, here, words, libpcap without and with its optimizer.

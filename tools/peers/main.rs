@@ -19,6 +19,7 @@ mod linux;
 mod pool;
 mod programs;
 mod shrink;
+mod traps;
 mod tree;
 #[path = "../differential/trees.rs"]
 mod trees;
