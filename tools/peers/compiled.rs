@@ -164,11 +164,11 @@ impl Met {
             self.instructions, self.theirs
         );
         println!(
-            "  {} frames of n + 64 bytes and more judged, {} accepted",
+            "  {} frames judged, those below n + 64 bytes filled up; {} accepted",
             self.frames, self.accepted
         );
         println!(
-            "  shorter frames, here and in libpcap: accepted and accepted {}, accepted and dropped {}, \
+            "  those as they are, here and in libpcap: accepted and accepted {}, accepted and dropped {}, \
              dropped and dropped {}, short and dropped {}, short and accepted {}",
             accepted[1], accepted[0], dropped[0], short[0], short[1]
         );
