@@ -6,7 +6,7 @@ samples/make.py --check   compares what is there; ends with 1 if a file differs
 
 Below, a tree is said by constructors and a frame is put together from its
 headers. Beside each tree stand the frames of which it is true, by hand:
-samples/try.py asks pft-run.
+samples/try.py asks bin/pft.
 """
 import ipaddress
 import pathlib
@@ -281,8 +281,8 @@ LONG_FRAMES = {"longest": 65535, "long": 65536}
 
 # What the test programs are run on: which samples go to which crate.
 COPIES = {
-    "pft_run": ["ethernet/web.pft", "ethernet/tcp80.frame", "ethernet/udp53.frame", "ethernet/cut_port.frame"],
-    "pft_run_cases": ["ethernet/drives.pft", "ethernet/web.pft"]
+    "command": ["ethernet/web.pft", "ethernet/tcp80.frame", "ethernet/udp53.frame", "ethernet/cut_port.frame"],
+    "command_cases": [f"ethernet/{name}.pft" for name in ("drives", "web", "ports", "net", "dns")]
     + [f"ethernet/{name}.frame" for name in ("tcp80", "drive", "drive6", "arp", "cut_header", "cut_port", "empty")]
     + ["refused/longest.frame", "refused/long.frame"]
     + [f"refused/{name}.pft" for name in REFUSED],
@@ -334,8 +334,11 @@ def write(wanted):
 
 
 def main():
+    if sys.argv[1:] == ["--help"]:
+        return print(__doc__.strip())
     if sys.argv[1:] not in ([], ["--check"]):
-        sys.exit("usage: samples/make.py [--check]")
+        print("usage: samples/make.py [--check]", file=sys.stderr)
+        sys.exit(2)
     sys.exit(check(files()) if sys.argv[1:] else write(files()))
 
 

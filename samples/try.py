@@ -1,28 +1,27 @@
 #!/usr/bin/env python3
-"""Runs ./pft-run over every sample. It needs python3 and `rt check pft_run`.
+"""Runs `bin/pft run` over every sample. It needs python3 and `rt check command`.
 
 samples/try.py
 
 Every tree is run over every frame of its link. The direct reading has to be
 what make.py says of the tree by hand, the verdict the same, but short on some
-of the frames that end early. Then what cannot be read or is refused: lines,
-messages and exit status. The last line is `N compared, M differences`; the
-status is 1 if M is not 0.
+of the frames that end early. Then the trees that are refused. The last line is
+`N compared, M differences`; the status is 1 if M is not 0. What the command
+does with files and streams is tried by bin/test/command.py.
 """
 import re
 import subprocess
 import sys
-import tempfile
 
 sys.dont_write_bytecode = True
 import make
 
-PFT_RUN = make.HERE.parent / "pft-run"
+PFT = make.HERE.parent / "bin" / "pft"
 LINE = re.compile(r"(.*): (accepted|dropped|short|broken), steps (\d+), direct reading (true|false)")
 EARLY = set(make.CUTS) | {"empty"}
 WORDS = {
     1: "strange file", 2: "wrong count", 3: "bad record", 4: "not one tree", 5: "kind on raw", 6: "port protocol",
-    7: "ether on raw", 8: "far jump", 10: "long frame",
+    7: "ether on raw", 8: "far jump",
 }  # fmt: skip
 
 
@@ -37,8 +36,11 @@ class Tally:
 
 
 def run(*words):
-    """Lines of answers, lines of messages, exit status."""
-    done = subprocess.run([PFT_RUN, *words], capture_output=True, text=True)
+    """Lines of answers, lines of messages, exit status. It ends where the command is not made or too old."""
+    done = subprocess.run([PFT, "run", *words], capture_output=True, text=True)
+    if done.returncode == 2:
+        sys.stderr.write(done.stderr)
+        sys.exit(2)
     return done.stdout.splitlines(), done.stderr.splitlines(), done.returncode
 
 
@@ -78,52 +80,17 @@ def try_refused(tally):
         frame = str(make.HERE / ("rawip" if tree.startswith("raw") else "ethernet") / "tcp80.frame")
         truth = "false" if number == 8 else "true"
         lines = [f"{frame}: not run, direct reading {truth}"] if 5 <= number <= 8 else []
-        tally.expect(path, run(path, frame), (lines, [f"{path}: refused, {number} {WORDS[number]}"], 1))
-
-
-def try_files(tally):
-    """Frames that cannot be read are passed over, a tree that cannot be ends the run; names may hold anything."""
-    web = str(make.HERE / "ethernet" / "web.pft")
-    good = str(make.HERE / "ethernet" / "tcp80.frame")
-    accepted = "accepted, steps 10, direct reading true"
-    long, longest = (str(make.HERE / "refused" / f"{name}.frame") for name in ("long", "longest"))
-    with tempfile.TemporaryDirectory() as room:
-        odd = f"{room}/a: dropped, steps 1,  direct.frame"
-        open(odd, "wb").write(make.frames(make.ETHERNET)["tcp80"])
-        words = [good, f"{room}/none", room, f"{good}/x", "", long, "x" * 300, "x" * 5000, longest, odd]
-        lines, messages, status = run(web, *words)
-        dropped = f"{longest}: dropped, steps 3, direct reading false"
-        tally.expect("lines", lines, [f"{good}: {accepted}", dropped, f"{odd}: {accepted}"])
-        reasons = [
-            f"{room}/none: cannot be read, no such file",
-            f"{room}: cannot be read, it is a directory",
-            f"{good}/x: cannot be read, a part of its path is not a directory",
-            ": cannot be read, no such file",
-            f"{long}: refused, 10 long frame",
-            "x" * 300 + ": cannot be read, its name is too long",
-            "argument 9: cannot be read, its name is too long",
-        ]
-        tally.expect("messages", messages, reasons)
-        tally.expect("status", status, 1)
-        tally.expect("no tree", run(f"{room}/none", good), ([], reasons[:1], 1))
-        tally.expect("a folder as tree", run(room, good), ([], reasons[1:2], 1))
-    long_name = ["argument 1: cannot be read, its name is too long"]
-    tally.expect("a long tree name", run("x" * 5000, good), ([], long_name, 1))
-
-
-def try_usage(tally):
-    usage = ["usage: pft-run TREE FRAME...", "       pft-run --help"]
-    tally.expect("no arguments", run(), ([], usage, 1))
-    tally.expect("no frame", run("tree"), ([], usage, 1))
-    lines, messages, status = run("--help")
-    tally.expect("--help", (lines[0], messages, status), (usage[0], [], 0))
+        tally.expect(path, run(path, frame), (lines, [f"{path}: refused {number}, {WORDS[number]}"], 1))
 
 
 def main():
-    if len(sys.argv) > 1:
-        sys.exit("usage: samples/try.py")
+    if sys.argv[1:] == ["--help"]:
+        return print(__doc__.strip())
+    if sys.argv[1:]:
+        print("usage: samples/try.py", file=sys.stderr)
+        sys.exit(2)
     tally = Tally()
-    for part in (try_trees, try_refused, try_files, try_usage):
+    for part in (try_trees, try_refused):
         part(tally)
     print(f"{tally.compared} compared, {tally.differences} differences")
     sys.exit(1 if tally.differences else 0)

@@ -40,6 +40,18 @@ static void print_refusal(const char *name, unsigned refusal)
     printf("%s: refused %u, %s\n", name, refusal, pft_refusal_word(refusal));
 }
 
+/* Builds the program of the tree; its count, or 0 where it is refused. */
+static size_t build(const char *name, size_t tree_length)
+{
+    uint32_t answer = pft_build(tree, tree_length, program, sizeof program);
+
+    if (pft_build_refusal(answer) != 0)
+        print_refusal(name, pft_build_refusal(answer));
+    else
+        printf("%s: %zu instructions\n", name, pft_build_count(answer));
+    return pft_build_count(answer);
+}
+
 /* One line for a frame; 0 where it is refused. */
 static int filter(const char *name, size_t tree_length, size_t count, size_t length)
 {
@@ -58,22 +70,21 @@ static int filter(const char *name, size_t tree_length, size_t count, size_t len
 int main(int argc, char **argv)
 {
     size_t tree_length, length, count;
-    uint32_t answer;
     int i, good = 1;
 
     if (argc < 2) {
         fprintf(stderr, "usage: %s TREE FRAME...\n", argv[0]);
         return 1;
     }
-    if (!read_file(argv[1], tree, sizeof tree, &tree_length))
-        return 1;
-    answer = pft_build(tree, tree_length, program, sizeof program);
-    if (pft_build_refusal(answer) != 0) {
-        print_refusal(argv[1], pft_build_refusal(answer));
+    if (!pft_serves()) {
+        fprintf(stderr, "libpft.a has version %u, at least %u is needed\n", (unsigned)pft_version(), PFT_VERSION);
         return 1;
     }
-    count = pft_build_count(answer);
-    printf("%s: %zu instructions\n", argv[1], count);
+    if (!read_file(argv[1], tree, sizeof tree, &tree_length))
+        return 1;
+    count = build(argv[1], tree_length);
+    if (count == 0)
+        return 1;
     for (i = 2; i < argc; i++)
         good &= read_file(argv[i], frame, sizeof frame, &length) && filter(argv[i], tree_length, count, length);
     return !good;

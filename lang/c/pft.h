@@ -5,9 +5,11 @@
  *
  *     cc -I lang/c program.c target/staticlib/libpft.a
  *
- * The three functions are proved equal to their definitions for all inputs (docs/PROMISES.md).
- * They hold no state, allocate nothing, need no library but for memset and its like, and may be
- * called from several threads at once. A call takes at most PFT_STACK bytes of stack.
+ * The functions of the archive are proved equal to their definitions for all inputs
+ * (docs/PROMISES.md). They hold no state, allocate nothing, need no library but for memset and its
+ * like, and may be called from several threads at once. A call takes at most PFT_STACK bytes of
+ * stack. The inline functions below their prototypes, which take answers apart and write tree
+ * files, are tested and not proved.
  *
  * Slices. Every slice is a pointer and the number of its bytes; no alignment is asked.
  *   - The bytes must be readable (for `program` of pft_build writable) during the call, and
@@ -17,19 +19,23 @@
  *   - `program` of pft_build must not overlap `tree`. The slices of pft_run, and those of
  *     pft_direct, may overlap.
  *
- * Answers are one number; the functions below the prototypes take it apart.
+ * Answers are one number, which functions below take apart.
  */
 #ifndef PFT_H
 #define PFT_H
 
 #include <stddef.h>
 #include <stdint.h>
+#include <string.h>
 
 #ifdef __cplusplus
 extern "C" {
 #endif
 
-/* Why a call is refused. */
+/* The version of libpft.a that this header is for. Each addition to the interface raises it by one. */
+#define PFT_VERSION 1
+
+/* Why a call is refused. Later versions add numbers. */
 enum pft_refusal {
     PFT_STRANGE_FILE = 1,  /* under 8 bytes, or mark, version or link differs */
     PFT_WRONG_COUNT = 2,   /* count 0 or over 128, or length not 8 + 24 x count */
@@ -66,6 +72,15 @@ enum pft_verdict {
  * for 127 nots over one, which is the deepest tree; a direct reading 24,700; a run below 600.
  */
 #define PFT_STACK ((size_t)262144)
+
+/* The version of the libpft.a that is linked. */
+uint32_t pft_version(void);
+
+/* 1 where the archive has all that this header names: it is of PFT_VERSION or later. */
+static inline int pft_serves(void)
+{
+    return pft_version() >= PFT_VERSION;
+}
 
 /*
  * Makes the program of a tree file: 8 bytes for each instruction, little-endian (16-bit code, jt,
@@ -137,10 +152,11 @@ static inline int pft_direct_truth(uint32_t answer)
 
 /* ---- words */
 
-/* The word of a refusal; NULL for any other number. */
+/* The word of a refusal, for any number: one of a later version is an "unknown refusal". */
 static inline const char *pft_refusal_word(unsigned refusal)
 {
     switch (refusal) {
+    case 0: return "not refused";
     case PFT_STRANGE_FILE: return "strange file";
     case PFT_WRONG_COUNT: return "wrong count";
     case PFT_BAD_RECORD: return "bad record";
@@ -152,20 +168,305 @@ static inline const char *pft_refusal_word(unsigned refusal)
     case PFT_SHORT_BUFFER: return "short buffer";
     case PFT_LONG_FRAME: return "long frame";
     case PFT_ODD_PROGRAM: return "odd program";
-    default: return NULL;
+    default: return "unknown refusal";
     }
 }
 
-/* The word of a verdict; NULL for any other number. */
+/* The word of a verdict, for any number. */
 static inline const char *pft_verdict_word(unsigned verdict)
 {
     switch (verdict) {
+    case 0: return "no verdict";
     case PFT_ACCEPTED: return "accepted";
     case PFT_DROPPED: return "dropped";
     case PFT_SHORT: return "short";
     case PFT_BROKEN: return "broken";
-    default: return NULL;
+    default: return "unknown verdict";
     }
+}
+
+/*
+ * ---- tree files written
+ *
+ * A file is started and its records are added in prefix order: a join, then its left part, then
+ * its right part. "tcp and not dst port 80":
+ *
+ *     struct pft_tree tree;
+ *     pft_start(&tree, PFT_ETHERNET);
+ *     pft_add_and(&tree);
+ *     pft_add_protocol(&tree, PFT_TCP);
+ *     pft_add_not(&tree);
+ *     pft_add_port(&tree, PFT_DESTINATION, PFT_NO_PROTOCOL, 80);
+ *     answer = pft_build(tree.bytes, tree.length, program, sizeof program);
+ *
+ * Nothing need be tested on the way. The 129th record is counted and not written, so that the
+ * file is refused with PFT_WRONG_COUNT; with a record too few or too many for its joins it is
+ * refused with PFT_NOT_ONE_TREE.
+ */
+
+/* What a frame starts with. */
+enum pft_link {
+    PFT_ETHERNET = 1,
+    PFT_RAW_IP = 2,   /* the IPv4 header itself */
+    PFT_LINUX_SLL = 3 /* a Linux cooked header */
+};
+
+/* Which of a frame's two addresses or ports is meant. */
+enum pft_direction {
+    PFT_EITHER = 0,
+    PFT_SOURCE = 1,
+    PFT_DESTINATION = 2,
+    PFT_BOTH = 3
+};
+
+/* Protocols; PFT_TCP alone is TCP over IPv4, a port of PFT_TCP one over IPv4 or IPv6. */
+enum pft_protocol {
+    PFT_NO_PROTOCOL = 0, /* for ports: Tcp or Udp */
+    PFT_IP = 1,
+    PFT_IP6 = 2,
+    PFT_ARP = 3,
+    PFT_RARP = 4,
+    PFT_TCP = 5,
+    PFT_UDP = 6,
+    PFT_ICMP = 7,
+    PFT_ICMP6 = 8,
+    PFT_IGMP = 9,
+    PFT_SCTP = 10,
+    PFT_NUM = 11,      /* an IPv4 protocol by its number, which stands in `small` */
+    PFT_IP6_PROTO = 12 /* an IPv6 next header likewise */
+};
+
+/* What a record is. */
+enum pft_kind {
+    PFT_KIND_AND = 1,
+    PFT_KIND_OR = 2,
+    PFT_KIND_NOT = 3,
+    PFT_KIND_PROTOCOL = 10,
+    PFT_KIND_HOST = 11,
+    PFT_KIND_HOST6 = 12,
+    PFT_KIND_NET = 13,
+    PFT_KIND_NET6 = 14,
+    PFT_KIND_PORT = 15,
+    PFT_KIND_PORT_RANGE = 16,
+    PFT_KIND_ETHER_HOST = 17,
+    PFT_KIND_ETHER_PROTOCOL = 18,
+    PFT_KIND_ETHER_MULTICAST = 19,
+    PFT_KIND_IP_BROADCAST = 20,
+    PFT_KIND_IP_MULTICAST = 21,
+    PFT_KIND_IP6_MULTICAST = 22,
+    PFT_KIND_CHAIN = 23,
+    PFT_KIND_CHAIN6 = 24
+};
+
+/* The bytes before the first record, and those of a record. */
+#define PFT_HEADER_SIZE ((size_t)8)
+#define PFT_RECORD_SIZE ((size_t)24)
+
+/* A tree file that is being written: its first `length` bytes. */
+struct pft_tree {
+    size_t length;
+    uint8_t bytes[PFT_TREE_MAX];
+};
+
+/* The fields of a record; those that its kind does not use are zero. */
+struct pft_record {
+    uint8_t kind, direction, protocol, small;
+    uint16_t a, b;
+    uint8_t address[16];
+};
+
+static inline void pft_put16(uint8_t *place, uint16_t number)
+{
+    place[0] = (uint8_t)(number >> 8);
+    place[1] = (uint8_t)number;
+}
+
+/* A file without records. */
+static inline void pft_start(struct pft_tree *tree, enum pft_link link)
+{
+    memset(tree, 0, sizeof *tree);
+    memcpy(tree->bytes, "PFT", 3);
+    pft_put16(tree->bytes + 3, 1);
+    tree->bytes[5] = (uint8_t)link;
+    tree->length = PFT_HEADER_SIZE;
+}
+
+/* Adds any record. */
+static inline void pft_add(struct pft_tree *tree, struct pft_record record)
+{
+    unsigned count = tree->bytes[6] * 256u + tree->bytes[7];
+    uint8_t *place = tree->bytes + tree->length;
+
+    if (count < 0xffff)
+        pft_put16(tree->bytes + 6, (uint16_t)(count + 1));
+    if (tree->length + PFT_RECORD_SIZE > PFT_TREE_MAX)
+        return;
+    place[0] = record.kind;
+    place[1] = record.direction;
+    place[2] = record.protocol;
+    place[3] = record.small;
+    pft_put16(place + 4, record.a);
+    pft_put16(place + 6, record.b);
+    memcpy(place + 8, record.address, sizeof record.address);
+    tree->length += PFT_RECORD_SIZE;
+}
+
+/* A record of a kind and a direction; the rest is zero. */
+static inline struct pft_record pft_record_of(enum pft_kind kind, enum pft_direction direction)
+{
+    struct pft_record record;
+
+    memset(&record, 0, sizeof record);
+    record.kind = (uint8_t)kind;
+    record.direction = (uint8_t)direction;
+    return record;
+}
+
+/* Adds a record that is its kind alone: a join, a broadcast or a multicast. */
+static inline void pft_add_kind(struct pft_tree *tree, enum pft_kind kind)
+{
+    pft_add(tree, pft_record_of(kind, PFT_EITHER));
+}
+
+/* Adds an and; its left part and its right part follow. */
+static inline void pft_add_and(struct pft_tree *tree)
+{
+    pft_add_kind(tree, PFT_KIND_AND);
+}
+
+/* Adds an or; its left part and its right part follow. */
+static inline void pft_add_or(struct pft_tree *tree)
+{
+    pft_add_kind(tree, PFT_KIND_OR);
+}
+
+/* Adds a not; its part follows. */
+static inline void pft_add_not(struct pft_tree *tree)
+{
+    pft_add_kind(tree, PFT_KIND_NOT);
+}
+
+/* Adds a protocol from PFT_IP to PFT_SCTP. */
+static inline void pft_add_protocol(struct pft_tree *tree, enum pft_protocol protocol)
+{
+    struct pft_record record = pft_record_of(PFT_KIND_PROTOCOL, PFT_EITHER);
+
+    record.protocol = (uint8_t)protocol;
+    pft_add(tree, record);
+}
+
+/* Adds PFT_NUM, an IPv4 protocol, or PFT_IP6_PROTO, an IPv6 next header, with its number. */
+static inline void pft_add_protocol_number(struct pft_tree *tree, enum pft_protocol protocol, uint8_t number)
+{
+    struct pft_record record = pft_record_of(PFT_KIND_PROTOCOL, PFT_EITHER);
+
+    record.protocol = (uint8_t)protocol;
+    record.small = number;
+    pft_add(tree, record);
+}
+
+/* Adds PFT_KIND_CHAIN or PFT_KIND_CHAIN6, a protocol chain for IPv4 or IPv6. */
+static inline void pft_add_chain(struct pft_tree *tree, enum pft_kind kind, uint8_t number)
+{
+    struct pft_record record = pft_record_of(kind, PFT_EITHER);
+
+    record.small = number;
+    pft_add(tree, record);
+}
+
+/*
+ * Addresses are their bytes in the order of a packet: what inet_pton writes, or an array such as
+ *
+ *     static const uint8_t drive[4] = {10, 20, 0, 5};
+ */
+
+static inline void pft_add_address(struct pft_tree *tree, struct pft_record record, const uint8_t *address,
+                                   size_t length)
+{
+    memcpy(record.address, address, length);
+    pft_add(tree, record);
+}
+
+/* Adds an IPv4 address. */
+static inline void pft_add_host(struct pft_tree *tree, enum pft_direction direction, const uint8_t address[4])
+{
+    pft_add_address(tree, pft_record_of(PFT_KIND_HOST, direction), address, 4);
+}
+
+/* Adds an IPv6 address. */
+static inline void pft_add_host6(struct pft_tree *tree, enum pft_direction direction, const uint8_t address[16])
+{
+    pft_add_address(tree, pft_record_of(PFT_KIND_HOST6, direction), address, 16);
+}
+
+/* Adds an Ethernet address. Not for PFT_RAW_IP. */
+static inline void pft_add_ether_host(struct pft_tree *tree, enum pft_direction direction, const uint8_t address[6])
+{
+    pft_add_address(tree, pft_record_of(PFT_KIND_ETHER_HOST, direction), address, 6);
+}
+
+/* Adds an IPv4 address under a mask, which may be any. */
+static inline void pft_add_net_mask(struct pft_tree *tree, enum pft_direction direction, const uint8_t address[4],
+                                    const uint8_t mask[4])
+{
+    struct pft_record record = pft_record_of(PFT_KIND_NET, direction);
+
+    memcpy(record.address + 4, mask, 4);
+    pft_add_address(tree, record, address, 4);
+}
+
+/* Adds an IPv4 address under a prefix; over 32 counts as 32. */
+static inline void pft_add_net(struct pft_tree *tree, enum pft_direction direction, const uint8_t address[4],
+                               unsigned prefix)
+{
+    uint32_t bits = prefix == 0 ? 0 : prefix >= 32 ? 0xffffffffu : ~(0xffffffffu >> prefix);
+    uint8_t mask[4];
+
+    pft_put16(mask, (uint16_t)(bits >> 16));
+    pft_put16(mask + 2, (uint16_t)bits);
+    pft_add_net_mask(tree, direction, address, mask);
+}
+
+/* Adds an IPv6 address under a prefix; over 128 counts as 128. */
+static inline void pft_add_net6(struct pft_tree *tree, enum pft_direction direction, const uint8_t address[16],
+                                uint8_t prefix)
+{
+    struct pft_record record = pft_record_of(PFT_KIND_NET6, direction);
+
+    record.small = prefix;
+    pft_add_address(tree, record, address, 16);
+}
+
+/* Adds a port of PFT_TCP, PFT_UDP, PFT_SCTP or PFT_NO_PROTOCOL. */
+static inline void pft_add_port(struct pft_tree *tree, enum pft_direction direction, enum pft_protocol protocol,
+                                uint16_t port)
+{
+    struct pft_record record = pft_record_of(PFT_KIND_PORT, direction);
+
+    record.protocol = (uint8_t)protocol;
+    record.a = port;
+    pft_add(tree, record);
+}
+
+/* Adds the ports from low to high, both included; the protocol is as for pft_add_port. */
+static inline void pft_add_ports(struct pft_tree *tree, enum pft_direction direction, enum pft_protocol protocol,
+                                 uint16_t low, uint16_t high)
+{
+    struct pft_record record = pft_record_of(PFT_KIND_PORT_RANGE, direction);
+
+    record.protocol = (uint8_t)protocol;
+    record.a = low;
+    record.b = high;
+    pft_add(tree, record);
+}
+
+/* Adds an ethertype. */
+static inline void pft_add_ether_protocol(struct pft_tree *tree, uint16_t ethertype)
+{
+    struct pft_record record = pft_record_of(PFT_KIND_ETHER_PROTOCOL, PFT_EITHER);
+
+    record.a = ethertype;
+    pft_add(tree, record);
 }
 
 #ifdef __cplusplus

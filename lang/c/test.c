@@ -4,27 +4,13 @@
  * ends the process.
  */
 #define _DEFAULT_SOURCE /* mmap's MAP_ANONYMOUS */
-#include <stdio.h>
-#include <stdlib.h>
 #include <string.h>
 #include <sys/mman.h>
 #include <ucontext.h>
 #include <unistd.h>
 
 #include "pft.h"
-
-static unsigned tests;
-
-static void test(int good, const char *what, int line)
-{
-    tests++;
-    if (good)
-        return;
-    printf("test.c:%d: %s\n", line, what);
-    exit(1);
-}
-
-#define TEST(condition) test(condition, #condition, __LINE__)
+#include "test.h"
 
 /* ---- memory with nothing around it */
 
@@ -359,8 +345,17 @@ static void words(void)
     TEST(strcmp(pft_verdict_word(PFT_DROPPED), "dropped") == 0);
     TEST(strcmp(pft_verdict_word(PFT_SHORT), "short") == 0);
     TEST(strcmp(pft_verdict_word(PFT_BROKEN), "broken") == 0);
-    TEST(pft_verdict_word(0) == NULL && pft_verdict_word(5) == NULL);
-    TEST(pft_refusal_word(0) == NULL && pft_refusal_word(12) == NULL);
+    TEST(strcmp(pft_verdict_word(0), "no verdict") == 0);
+    TEST(strcmp(pft_verdict_word(5), "unknown verdict") == 0);
+    TEST(strcmp(pft_refusal_word(0), "not refused") == 0);
+    TEST(strcmp(pft_refusal_word(12), "unknown refusal") == 0);
+    TEST(strcmp(pft_refusal_word(65535), "unknown refusal") == 0);
+}
+
+/* The archive is the header's own. */
+static void version(void)
+{
+    TEST(pft_version() == PFT_VERSION && pft_serves());
 }
 
 int main(void)
@@ -377,6 +372,7 @@ int main(void)
     shared_slices();
     deep_trees();
     words();
+    version();
     printf("%u tests passed\n", tests);
     return 0;
 }

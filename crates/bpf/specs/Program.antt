@@ -1,9 +1,9 @@
 -- Instructions and programs as bytes.
 use Prim.Native.Nat.{ℕ, zero, suc, _+_, _/_, _%_}
 use mathlib.Core.List.{List, [], _∷_, _++_}
-use mathlib.Core.Bool.{cond}
+use mathlib.Core.Bool.{cond, _&&_}
 use lib.ListN.{getD}
-use lib.Dec.{eqb}
+use lib.Dec.{ltb, eqb}
 use Rattle.bpf.specs.declared.Insn.{Insn}
 use Rattle.bpf.specs.Bytes.{le, leAt}
 
@@ -27,10 +27,11 @@ unfoldable pub insnsAt : ℕ → ℕ → List ℕ → List Insn
 insnsAt zero at s = []
 insnsAt (suc n) at s = insnAt at s ∷ insnsAt n (at + 8) s
 
--- where the instruction at place i may jump: "Distance is target − place − 1, for ja too." Class JMP is 5, JA is operation 0.
+-- where the instruction at place i may jump: "Distance is target − place − 1, for ja too." Class JMP is 5, its operations are 0 to 4, and JA is
+-- operation 0
 abbrev pub targets : ℕ → Insn → List ℕ
 targets i x =
-    cond (eqb (x .code % 8) 5)
+    cond (eqb (x .code % 8) 5 && ltb (x .code / 16 % 16) 5)
     (cond (eqb (x .code / 16 % 16) 0) ((i + 1 + x .k) ∷ []) ((i + 1 + x .jt) ∷ (i + 1 + x .jf) ∷ []))
     []
 

@@ -182,12 +182,17 @@ conditions =
     ∷ makes LinuxSll (host6 Dst) (ldh 14 ∷ jeq 0x86dd 0 17 ∷ ldh 40 ∷ jeq 0x2001 0 15 ∷ ldh 42 ∷ jeq 0xdb8 0 13 ∷ ldh 44 ∷ jeq 1 0 11 ∷ ldh 46 ∷ jeq 2 0 9 ∷ ldh 48 ∷ jeq 3 0 7 ∷ ldh 50 ∷ jeq 4 0 5 ∷ ldh 52 ∷ jeq 5 0 3 ∷ ldh 54 ∷ jeq 6 0 1 ∷ [])
     ∷ has Ethernet (host6 SrcOrDst) 37 18 (ja 16)
     ∷ has LinuxSll (host6 SrcAndDst) 36 19 (jeq 0x2001 0 15)
+    -- either and both test the source first
+    ∷ has Ethernet (host6 SrcOrDst) 37 2 (ldh 22)
+    ∷ has LinuxSll (host6 SrcAndDst) 36 2 (ldh 24)
     ∷ refuses RawIp (host6 Src) 5
     -- 13, IPv4 net: the mask is any, and the address is masked too
     ∷ makes Ethernet (Leaf (Net SrcOrDst 0xc0a8_0117 0xffff_ff00)) (ldh 12 ∷ jeq 0x0800 0 7 ∷ ldw 26 ∷ mask 0xffff_ff00 ∷ jeq 0xc0a8_0100 3 0 ∷ ldw 30 ∷ mask 0xffff_ff00 ∷ jeq 0xc0a8_0100 0 1 ∷ [])
     ∷ makes RawIp (Leaf (Net Src 0xc0a8_0100 0x00ff_00ff)) (ldw 12 ∷ mask 0x00ff_00ff ∷ jeq 0x00a8_0000 0 1 ∷ [])
     ∷ makes LinuxSll (Leaf (Net SrcAndDst 0xc0a8_0100 0x0000_0000)) (ldh 14 ∷ jeq 0x0800 0 7 ∷ ldw 28 ∷ mask 0 ∷ jeq 0 0 4 ∷ ldw 32 ∷ mask 0 ∷ jeq 0 0 1 ∷ [])
     ∷ makes LinuxSll (Leaf (Net Dst 0xc0a8_0100 0xfffe_0000)) (ldh 14 ∷ jeq 0x0800 0 4 ∷ ldw 32 ∷ mask 0xfffe_0000 ∷ jeq 0xc0a8_0000 0 1 ∷ [])
+    -- a mask of all bits is a mask too
+    ∷ makes RawIp (Leaf (Net Src 0x0a00_0001 0xffff_ffff)) (ldw 12 ∷ mask 0xffff_ffff ∷ jeq 0x0a00_0001 0 1 ∷ [])
     -- 14, IPv6 net: whole segments, the last one masked, none past the prefix; prefixes over 128 count as 128
     ∷ makes Ethernet (net6 Src 0) (ldh 12 ∷ jeq 0x86dd 0 1 ∷ [])
     ∷ makes Ethernet (net6 Src 3) (ldh 12 ∷ jeq 0x86dd 0 4 ∷ ldh 22 ∷ mask 0xe000 ∷ jeq 0x2000 0 1 ∷ [])
@@ -287,6 +292,41 @@ joins =
     ∷ makes Ethernet (Not (proto Tcp or proto Udp)) (ldh 12 ∷ jeq 0x0800 0 6 ∷ ldb 23 ∷ jeq 6 0 1 ∷ ja 4 ∷ ldb 23 ∷ jeq 17 0 1 ∷ ja 1 ∷ [])
     ∷ makes Ethernet (Not (Not (proto Arp))) (ldh 12 ∷ jeq 0x0806 0 1 ∷ ja 1 ∷ ja 1 ∷ [])
     ∷ makes Ethernet (Not (Leaf (Host4 SrcOrDst 0x0a00_0001))) (ldh 12 ∷ jeq 0x0800 0 5 ∷ ldw 26 ∷ jeq 0x0a00_0001 4 0 ∷ ldw 30 ∷ jeq 0x0a00_0001 0 1 ∷ ja 1 ∷ [])
+    -- a prologue makes its protocol known, also one that only narrows, and is ready for the set that it narrowed to
+    ∷ makes RawIp (port Dst none 53 and port Dst (some Tcp) 80 and port Dst (some Tcp) 81 and proto Tcp) (ldb 9 ∷ jeq 6 1 0 ∷ jeq 17 0 12 ∷ ldh 6 ∷ jset 0x1fff 10 0 ∷ ldxm 0 ∷ ldhx 2 ∷ jeq 53 0 7 ∷ ldb 9 ∷ jeq 6 0 5 ∷ ldhx 2 ∷ jeq 80 0 3 ∷ ldhx 2 ∷ jeq 81 0 1 ∷ [])
+    -- a known protocol narrows the set of ports that are ready; once they are ready it is tested again
+    ∷ makes RawIp (proto Udp and port Dst none 53 and port Dst (some Udp) 54) (ldb 9 ∷ jeq 17 0 8 ∷ ldh 6 ∷ jset 0x1fff 6 0 ∷ ldxm 0 ∷ ldhx 2 ∷ jeq 53 0 3 ∷ ldhx 2 ∷ jeq 54 0 1 ∷ [])
+    ∷ makes RawIp (port Dst none 53 and proto Udp and port Dst (some Udp) 54) (ldb 9 ∷ jeq 6 1 0 ∷ jeq 17 0 12 ∷ ldh 6 ∷ jset 0x1fff 10 0 ∷ ldxm 0 ∷ ldhx 2 ∷ jeq 53 0 7 ∷ ldb 9 ∷ jeq 17 0 5 ∷ ldb 9 ∷ jeq 17 0 3 ∷ ldhx 2 ∷ jeq 54 0 1 ∷ [])
+    -- ports stay ready where a fact is learned
+    ∷ makes Ethernet (proto Ip6 and port Dst none 53 and proto (Ip6Proto 17) and port Dst none 54) (ldh 12 ∷ jeq 0x86dd 0 11 ∷ ldb 20 ∷ jeq 6 1 0 ∷ jeq 17 0 8 ∷ ldx 40 ∷ ldhx 16 ∷ jeq 53 0 5 ∷ ldb 20 ∷ jeq 17 0 3 ∷ ldhx 16 ∷ jeq 54 0 1 ∷ [])
+    -- a next header is only filled where empty
+    ∷ makes Ethernet (proto Icmp6 and proto (Ip6Proto 6) and proto Icmp6) (ldh 12 ∷ jeq 0x86dd 0 5 ∷ ldb 20 ∷ jeq 58 0 3 ∷ ldb 20 ∷ jeq 6 0 1 ∷ [])
+    -- an ethertype that is neither version leaves both versions to the prologue; a second prologue replaces the set
+    ∷ has Ethernet (proto Arp and port Dst (some Tcp) 80) 18 2 (ldh 12)
+    ∷ has Ethernet (port Dst none 53 and port Dst (some Tcp) 80 and port Dst (some Tcp) 81) 34 29 (jeq 80 0 3)
+    -- every condition makes its ethertype known, and a chain its protocol
+    ∷ has Ethernet (joined And (Not (Leaf (Host4 Src 0x0a00_0001) and proto Ip)) (Not (Leaf (Net Src 0x0a00_0000 0xff00_0000) and proto Ip) ∷ Not (Leaf IpBroadcast and proto Ip) ∷ Not (Leaf IpMulticast and proto Ip) ∷ Not (Leaf (EtherProto 0x0800) and proto Ip) ∷ Not (Leaf (IpProtoChain 6) and proto Tcp) ∷ Not (net6 Src 0 and proto Ip6) ∷ Not (Leaf Ip6Multicast and proto Ip6) ∷ Not (Leaf (Ip6ProtoChain 58) and proto Icmp6) ∷ [])) 45 0 (ldh 12)
+    -- after an or what both sides know is known, though it was not hoisted
+    ∷ makes RawIp ((port Dst (some Tcp) 80 or proto Tcp) and proto Tcp) (ldb 9 ∷ jeq 6 0 6 ∷ ldh 6 ∷ jset 0x1fff 4 0 ∷ ldxm 0 ∷ ldhx 2 ∷ jeq 80 0 1 ∷ ja 2 ∷ ldb 9 ∷ jeq 6 0 1 ∷ [])
+    ∷ makes Ethernet (proto Ip6 and (port Dst (some Tcp) 80 or proto (Ip6Proto 6)) and proto (Ip6Proto 6)) (ldh 12 ∷ jeq 0x86dd 0 9 ∷ ldb 20 ∷ jeq 6 0 4 ∷ ldx 40 ∷ ldhx 16 ∷ jeq 80 0 1 ∷ ja 2 ∷ ldb 20 ∷ jeq 6 0 1 ∷ [])
+    -- two equal sets join to themselves, TCP or UDP with one of them to TCP or UDP
+    ∷ makes RawIp ((port Dst (some Tcp) 80 or port Dst (some Tcp) 81) and port Dst (some Tcp) 82) (ldb 9 ∷ jeq 6 0 11 ∷ ldh 6 ∷ jset 0x1fff 9 0 ∷ ldxm 0 ∷ ldhx 2 ∷ jeq 80 0 1 ∷ ja 2 ∷ ldhx 2 ∷ jeq 81 0 3 ∷ ldhx 2 ∷ jeq 82 0 1 ∷ [])
+    ∷ makes RawIp ((port Dst (some Sctp) 5 or port Dst (some Sctp) 6) and port Dst (some Sctp) 7) (ldb 9 ∷ jeq 132 0 11 ∷ ldh 6 ∷ jset 0x1fff 9 0 ∷ ldxm 0 ∷ ldhx 2 ∷ jeq 5 0 1 ∷ ja 2 ∷ ldhx 2 ∷ jeq 6 0 3 ∷ ldhx 2 ∷ jeq 7 0 1 ∷ [])
+    ∷ makes RawIp ((port Dst (some Tcp) 80 or port Dst none 53 or port Dst (some Udp) 54) and port Dst none 55) (ldb 9 ∷ jeq 6 0 6 ∷ ldh 6 ∷ jset 0x1fff 4 0 ∷ ldxm 0 ∷ ldhx 2 ∷ jeq 80 0 1 ∷ ja 16 ∷ ldb 9 ∷ jeq 6 1 0 ∷ jeq 17 0 6 ∷ ldh 6 ∷ jset 0x1fff 4 0 ∷ ldxm 0 ∷ ldhx 2 ∷ jeq 53 0 1 ∷ ja 7 ∷ ldb 9 ∷ jeq 17 0 8 ∷ ldh 6 ∷ jset 0x1fff 6 0 ∷ ldxm 0 ∷ ldhx 2 ∷ jeq 54 0 3 ∷ ldhx 2 ∷ jeq 55 0 1 ∷ [])
+    -- an and requires what either side does, the left where both do: ethertype, IPv4 protocol, next header, ports
+    ∷ makes Ethernet (proto Ip and proto Arp or multicast and proto Ip) (ldh 12 ∷ jeq 0x0800 0 6 ∷ ldh 12 ∷ jeq 0x0806 0 1 ∷ ja 2 ∷ ldb 0 ∷ jset 1 0 1 ∷ [])
+    ∷ makes RawIp (proto Tcp and proto Udp or proto Ip and proto Tcp) (ldb 9 ∷ jeq 6 0 4 ∷ ldb 9 ∷ jeq 17 0 1 ∷ ja 0 ∷ [])
+    ∷ makes Ethernet (proto Icmp6 and proto (Ip6Proto 6) or proto Ip6 and proto Icmp6) (ldh 12 ∷ jeq 0x86dd 0 6 ∷ ldb 20 ∷ jeq 58 0 4 ∷ ldb 20 ∷ jeq 6 0 1 ∷ ja 0 ∷ [])
+    ∷ makes RawIp (port Dst (some Tcp) 80 and port Dst none 53 or proto Ip and port Dst (some Tcp) 81) (ldb 9 ∷ jeq 6 0 11 ∷ ldh 6 ∷ jset 0x1fff 9 0 ∷ ldxm 0 ∷ ldhx 2 ∷ jeq 80 0 3 ∷ ldhx 2 ∷ jeq 53 0 1 ∷ ja 2 ∷ ldhx 2 ∷ jeq 81 0 1 ∷ [])
+    ∷ makes RawIp (port Dst none 53 and port Dst (some Tcp) 80 or port Dst none 54) (ldb 9 ∷ jeq 6 1 0 ∷ jeq 17 0 13 ∷ ldh 6 ∷ jset 0x1fff 11 0 ∷ ldxm 0 ∷ ldhx 2 ∷ jeq 53 0 5 ∷ ldb 9 ∷ jeq 6 0 3 ∷ ldhx 2 ∷ jeq 80 0 1 ∷ ja 2 ∷ ldhx 2 ∷ jeq 54 0 1 ∷ [])
+    -- every condition of IPv4 requires 0x0800, of IPv6 0x86dd, also where ors nest; a chain and a number require their protocol, a range its ports
+    ∷ makes Ethernet (Leaf (Host4 Src 0x0a00_0001) or Leaf (Net Src 0x0a00_0000 0xff00_0000) or Leaf IpBroadcast or Leaf IpMulticast or Leaf (IpProtoChain 6) or proto Ip) (ldh 12 ∷ jeq 0x0800 0 18 ∷ ldw 26 ∷ jeq 0x0a00_0001 0 1 ∷ ja 14 ∷ ldw 26 ∷ mask 0xff00_0000 ∷ jeq 0x0a00_0000 0 1 ∷ ja 10 ∷ ldw 30 ∷ jeq 0xffff_ffff 0 1 ∷ ja 7 ∷ ldw 30 ∷ mask 0xf000_0000 ∷ jeq 0xe000_0000 0 1 ∷ ja 3 ∷ ldb 23 ∷ jeq 6 0 1 ∷ ja 0 ∷ [])
+    ∷ has Ethernet (net6 Src 0 or Leaf Ip6Multicast or Leaf (Ip6ProtoChain 58) or Leaf (EtherProto 0x86dd) or host6 Src) 28 4 (jeq 255 0 1)
+    ∷ makes RawIp (Leaf (IpProtoChain 6) or proto (Num 6) or proto Tcp) (ldb 9 ∷ jeq 6 0 3 ∷ ja 1 ∷ ja 0 ∷ [])
+    ∷ makes Ethernet (Leaf (Ip6ProtoChain 58) or proto (Ip6Proto 58) or proto Icmp6) (ldh 12 ∷ jeq 0x86dd 0 5 ∷ ldb 20 ∷ jeq 58 0 3 ∷ ja 1 ∷ ja 0 ∷ [])
+    ∷ makes RawIp (Leaf (PortRange Dst none 80 80) or port Dst none 53) (ldb 9 ∷ jeq 6 1 0 ∷ jeq 17 0 10 ∷ ldh 6 ∷ jset 0x1fff 8 0 ∷ ldxm 0 ∷ ldhx 2 ∷ jge 80 0 2 ∷ jgt 80 1 0 ∷ ja 2 ∷ ldhx 2 ∷ jeq 53 0 1 ∷ [])
+    -- two nots require nothing either
+    ∷ makes Ethernet (Not (Not (proto Ip)) or proto Ip) (ldh 12 ∷ jeq 0x0800 0 1 ∷ ja 1 ∷ ja 1 ∷ ja 2 ∷ ldh 12 ∷ jeq 0x0800 0 1 ∷ [])
     -- with the ethertype known and ports ready only the protocol is tested; with it unknown the whole prologue comes again
     ∷ makes Ethernet (proto Ip and port Dst none 53 and port Dst (some Tcp) 80) (ldh 12 ∷ jeq 0x0800 0 13 ∷ ldb 23 ∷ jeq 6 1 0 ∷ jeq 17 0 10 ∷ ldh 20 ∷ jset 0x1fff 8 0 ∷ ldxm 14 ∷ ldhx 16 ∷ jeq 53 0 5 ∷ ldb 23 ∷ jeq 6 0 3 ∷ ldhx 16 ∷ jeq 80 0 1 ∷ [])
     ∷ has Ethernet (port Dst none 53 and port Dst (some Tcp) 80) 32 16 (ldh 12)
@@ -324,6 +364,8 @@ jumps =
     -- a distance of 255 is accepted, one of 256 is number 8
     has Ethernet (joined And multicast (replicate 6 multicast ++ (host6 Src ∷ replicate 7 (host6 SrcAndDst)))) 258 1 (jset 1 0 255)
     ∷ refuses Ethernet (joined And multicast (replicate 6 multicast ++ (host6 Src ∷ (replicate 6 (host6 SrcAndDst) ++ (host6 SrcOrDst ∷ []))))) 8
+    -- an and resolves its left side's successes before its right side is emitted
+    ∷ refuses Ethernet (joined Or (ether SrcOrDst) (replicate 26 (ether SrcOrDst)) and port Dst (some Icmp) 80) 8
     -- a `ja` too has only 255, though its field is wider
     ∷ has Ethernet (joined Or (ether SrcOrDst) (replicate 24 (ether SrcOrDst)) or ether SrcAndDst and multicast) 262 4 (ja 255)
     ∷ refuses Ethernet (joined Or (ether SrcOrDst) (replicate 24 (ether SrcOrDst)) or ether SrcOrDst and multicast) 8

@@ -307,6 +307,10 @@ sets L on =
     ∷ row L (Port Dst (some (Ip6Proto 6)) 80) (carriers on) 0
     ∷ row L (PortRange Dst (some Icmp) 0 65535) (carriers on) 0
     ∷ row L (PortRange Dst (some (Num 17)) 0 65535) (carriers on) 0
+    -- the same on protocols of their own: IGMP is 2, and 4 and 41 are IPv4 and IPv6 within IPv4
+    ∷ row L (Port Dst (some Igmp) 80) (on 0x0800 (proto4 2) ∷ on 0x86dd (proto6 2) ∷ []) 0
+    ∷ row L (Port Dst (some Ip) 80) (on 0x0800 (proto4 4) ∷ on 0x86dd (proto6 4) ∷ []) 0
+    ∷ row L (Port Dst (some Ip6) 80) (on 0x0800 (proto4 41) ∷ on 0x86dd (proto6 41) ∷ []) 0
     ∷ []
 
 rawSets : List Row

@@ -1,6 +1,6 @@
 // The refusals, in the order of document 01's table, and their numbers.
 ghost use mathlib.Core.Path.{_≡_};
-ghost use Prim.Native.Nat.{_≤_};
+ghost use Prim.Native.Nat.{_≤_, _<_};
 ghost use Rattle.error.specs.Answer.{numberOf};
 
 pub enum Refusal {
@@ -17,8 +17,9 @@ pub enum Refusal {
     OddProgram,
 }
 
+// The number, which is not 0 and takes a byte.
 pub fn refusal_number(refusal: Refusal) -> u32
-    ensures { λ r. ⌜ (r ≡ numberOf refusal) × (r ≤ 11) ⌝ }
+    ensures { λ r. ⌜ (r ≡ numberOf refusal) × (1 ≤ r) × (r < 256) ⌝ }
 {
     match refusal {
         Refusal::StrangeFile => 1,

@@ -1,11 +1,14 @@
--- A run stops within 4,096 steps.
-use Prim.Native.Nat.{ℕ, _/_, _≤_}
+-- Answers as numbers: a refusal beyond 256, and no more steps than 16 bits hold.
+use Prim.Native.Nat.{ℕ, _+_, _*_, _/_, _≤_}
 use mathlib.Core.Bool.{Bool, true, false, cond}
 use mathlib.Core.Path.{_≡_, refl}
 use mathlib.Core.List.{List}
 use native.Mathlib.Omega.{arith}
 use lib.ListN.{length}
+use borrow.Author.Tests.{ne-eqb}
+use Rattle.error.specs.declared.Refusal.{Refusal}
 use Rattle.error.specs.declared.Refusal.the-variants.{LongFrame, OddProgram}
+use Rattle.error.specs.Answer.{numberOf}
 use Rattle.bpf.specs.Program.{insnsAt}
 use Rattle.bpf.specs.Bytes.{longFrame}
 use Rattle.bpf.proofs.Programs.{length-insns}
@@ -13,6 +16,11 @@ use Rattle.vm.specs.declared.RunResult.the-variants.{Ran, Refused}
 use Rattle.vm.specs.Machine.{inner, oddProgram, run, stepsOf}
 use Rattle.vm.proofs.Steps.{inner-steps}
 use Rattle.machine.proofs.Entry.{odd-long}
+use Rattle.pft.specs.Numbers.{beyond}
+
+-- the number of a refusal as code makes it
+pub beyond-of : (r : Refusal) (n : ℕ) → n ≡ numberOf r → 1 ≤ n → 256 + n ≡ beyond (numberOf r)
+beyond-of r n e h = rw (← e, ne-eqb n 0 (λ z. omega arith))
 
 -- a program of at most 32,768 bytes has at most 4,096 instructions, and a run no more steps
 pub run-steps : (p f : List ℕ) → stepsOf (run p f) ≤ 4096

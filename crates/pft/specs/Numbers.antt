@@ -1,30 +1,30 @@
 -- The answers of the exported functions as numbers.
 use Prim.Native.Nat.{ℕ, _+_, _*_}
 use mathlib.Core.Bool.{cond}
-use Rattle.error.specs.Answer.{numberOf}
+use lib.Dec.{eqb}
 use Rattle.vm.specs.declared.RunResult.{RunResult}
-use Rattle.vm.specs.declared.RunResult.the-variants.{Ran, Refused}
-use Rattle.vm.specs.Machine.{numberOfVerdict}
+use Rattle.vm.specs.Machine as Run
 use Rattle.direct.specs.declared.DirectResult.{DirectResult}
-use Rattle.direct.specs.declared.DirectResult.the-variants as D
+use Rattle.direct.specs.Direct as Direct
 use Rattle.build.specs.declared.BuildResult.{BuildResult}
-use Rattle.build.specs.declared.BuildResult.the-variants as B
+use Rattle.build.specs.Build as Build
 
 -- the number of this interface: a landing that adds to it raises it by one
 abbrev pub version : ℕ
 version = 1
 
+-- a refusal as "256 + refusal number"; 0 where there is none
+abbrev pub beyond : ℕ → ℕ
+beyond n = cond (eqb n 0) 0 (256 + n)
+
 -- "verdict × 65,536 + steps, verdict 1 accepted, 2 dropped, 3 short, 4 broken; for a refused run (256 + refusal number) × 65,536"
 abbrev pub runNumber : RunResult → ℕ
-runNumber (Ran o) = numberOfVerdict (o .verdict) * 65536 + o .steps
-runNumber (Refused r) = (256 + numberOf r) * 65536
+runNumber r = (Run.verdictOf r + beyond (Run.refusalOf r)) * 65536 + Run.stepsOf r
 
 -- "refusal × 65,536 + count"
 abbrev pub buildNumber : BuildResult → ℕ
-buildNumber (B.Count c) = c
-buildNumber (B.Refused r) = numberOf r * 65536
+buildNumber r = Build.refusalOf r * 65536 + Build.countOf r
 
 -- "1 or 0; 256 + number where 1 to 4 or then 10 refuses"
 abbrev pub directNumber : DirectResult → ℕ
-directNumber (D.Is b) = cond b 1 0
-directNumber (D.Refused r) = 256 + numberOf r
+directNumber r = Direct.truthOf r + beyond (Direct.refusalOf r)

@@ -3,6 +3,7 @@
 use Prim.Native.Nat.{ℕ, zero, suc, _+_}
 use mathlib.Core.List.{List, [], _∷_, _++_}
 use mathlib.Core.Bool.{Bool, true, false, cond, not, _&&_, _||_}
+use mathlib.Core.Option.{Option, none, some}
 use lib.ListN.{replicate}
 use lib.Dec.{eqb, T}
 use Rattle.bpf.specs.declared.Insn.{Insn}
@@ -12,13 +13,13 @@ use Rattle.vm.specs.declared.Verdict.{Verdict}
 use Rattle.vm.specs.declared.Verdict.the-variants.{Accepted, Dropped, Short, Broken}
 use Rattle.vm.specs.declared.Outcome.{Outcome}
 use Rattle.vm.specs.declared.RunResult.{RunResult}
-use Rattle.vm.specs.declared.RunResult.the-variants.{Ran, Refused}
-use Rattle.vm.specs.Machine.{load, sizedLoad, scratch, ld, ldx, alu, jmp, effect, exec, inner, run, refusalOf, numberOfVerdict, stepsOf}
+use Rattle.vm.specs.Machine.{load, sizedLoad, scratch, ld, ldx, alu, jmp, effect, exec, inner, run, refusalOf, innerOf, numberOfVerdict, verdictOf, stepsOf}
 
 data Row : Type 0 where
   runs : List Insn → List ℕ → Verdict → ℕ → Row  -- a program over a frame: the verdict and the instructions fetched
-  ran : List ℕ → List ℕ → Verdict → ℕ → Row  -- the same of a program's bytes
-  refuses : List ℕ → List ℕ → ℕ → Row  -- the number of the refusal of a program's bytes over a frame
+  answers : List Insn → List ℕ → Option Bool → Row  -- the same: what `inner` of vm.rs answers
+  ran : List ℕ → List ℕ → ℕ → ℕ → Row  -- a program's bytes over a frame: the verdict's number and the instructions fetched
+  refuses : List ℕ → List ℕ → ℕ → Row  -- the same: the number of the refusal
   both : ℕ → ℕ → ℕ → List Insn → Verdict → ℕ → Row  -- A, a code, its operand, what follows: verdict and steps, with the operand in k and in X
   unknown : List ℕ → Row  -- the codes from 0 to 255 that are broken where k and X are 1
 
@@ -60,9 +61,9 @@ tcp fragment rest = replicate 12 0 ++ (8 ∷ 0 ∷ 0x46 ∷ replicate 6 0 ++ (fr
 abbrev same : Outcome → Verdict → ℕ → Bool
 same o v n = eqb (numberOfVerdict (o .verdict)) (numberOfVerdict v) && eqb (o .steps) n
 
-abbrev sameRan : RunResult → Verdict → ℕ → Bool
-sameRan (Ran o) v n = same o v n
-sameRan (Refused r) v n = false
+-- refusal, verdict and steps of a run's answer
+abbrev valued : RunResult → ℕ → ℕ → ℕ → Bool
+valued r n v t = eqb (refusalOf r) n && (eqb (verdictOf r) v && eqb (stepsOf r) t)
 
 abbrev member : ℕ → List ℕ → Bool
 member n [] = false
@@ -71,6 +72,12 @@ member n (m ∷ l) = eqb n m || member n l
 abbrev equal : Bool → Bool → Bool
 equal true b = b
 equal false b = not b
+
+abbrev alike : Option Bool → Option Bool → Bool
+alike none none = true
+alike none (some b) = false
+alike (some a) none = false
+alike (some a) (some b) = equal a b
 
 -- of the codes below n, those of the list are broken and no others
 unknownBelow : ℕ → List ℕ → Bool
@@ -83,8 +90,9 @@ holds (runs p f v n) = same (inner p f) v n
 holds (both a c v p o n) =
     let u : ℕ = cond (eqb v 0) 1 0 in
     same (inner (op 0x00 a ∷ op 0x01 u ∷ insn c 0 1 v ∷ p) five) o n && same (inner (op 0x00 a ∷ op 0x01 v ∷ insn (c + 8) 0 1 u ∷ p) five) o n
-holds (ran p f v n) = let r = run p f in sameRan r v n && (eqb (refusalOf r) 0 && eqb (stepsOf r) n)
-holds (refuses p f n) = let r = run p f in eqb (refusalOf r) n && eqb (stepsOf r) 0
+holds (answers p f b) = alike (innerOf (inner p f .verdict)) b
+holds (ran p f v n) = valued (run p f) 0 v n
+holds (refuses p f n) = valued (run p f) n 0 0
 holds (unknown l) = unknownBelow 256 l
 
 test : List Row → Bool
@@ -229,6 +237,17 @@ table =
     ∷ runs (op 0x01 9 ∷ op 0xff 0 ∷ isA 9) five Accepted 4
     -- of the codes 0 to 255 exactly these are unknown
     ∷ unknown unknowns
+    -- what vm.rs answers: for a return its truth; None for two loads past the frame's end, an unknown code, size 0x18, no scratch word,
+    -- divisor 0 and no next instruction
+    ∷ answers (op 0x06 1 ∷ []) five (some true)
+    ∷ answers (op 0x06 0 ∷ []) five (some false)
+    ∷ answers (op 0x30 5 ∷ ends) five none
+    ∷ answers (op 0xb1 5 ∷ ends) five none
+    ∷ answers (op 0x94 5 ∷ ends) five none
+    ∷ answers (op 0x38 0 ∷ ends) five none
+    ∷ answers (op 0x60 16 ∷ ends) five none
+    ∷ answers (op 0x34 0 ∷ ends) five none
+    ∷ answers (op 0x00 1 ∷ []) five none
     -- two filters of document 01: Ip, and Tcp with Tcp destination port 80
     ∷ runs ip (replicate 13 0) Short 1
     ∷ runs ip (replicate 12 0 ++ (8 ∷ 0 ∷ [])) Accepted 3
@@ -237,9 +256,12 @@ table =
     ∷ runs web (tcp 0 (0 ∷ [])) Short 8
     ∷ runs web (tcp 1 (0 ∷ 80 ∷ [])) Dropped 7
     -- bytes run over a frame: little-endian instructions; a frame of 65,535 bytes; the longest program, with JA to its last instruction
-    ∷ ran (0 ∷ 0 ∷ 0 ∷ 0 ∷ 4 ∷ 3 ∷ 2 ∷ 1 ∷ 21 ∷ 0 ∷ 1 ∷ 0 ∷ 4 ∷ 3 ∷ 2 ∷ 1 ∷ 6 ∷ 0 ∷ 0 ∷ 0 ∷ 0 ∷ 0 ∷ 0 ∷ 0 ∷ 6 ∷ 255 ∷ 0 ∷ 0 ∷ 0 ∷ 0 ∷ 0 ∷ 1 ∷ []) [] Accepted 3
-    ∷ ran (128 ∷ 0 ∷ 0 ∷ 0 ∷ 0 ∷ 0 ∷ 0 ∷ 0 ∷ 21 ∷ 0 ∷ 0 ∷ 1 ∷ 255 ∷ 255 ∷ 0 ∷ 0 ∷ 6 ∷ 0 ∷ 0 ∷ 0 ∷ 1 ∷ 0 ∷ 0 ∷ 0 ∷ []) (replicate 65535 0) Accepted 3
-    ∷ ran (5 ∷ 0 ∷ 0 ∷ 0 ∷ 0xfe ∷ 0x0f ∷ replicate 32762 0) [] Broken 2
+    ∷ ran (0 ∷ 0 ∷ 0 ∷ 0 ∷ 4 ∷ 3 ∷ 2 ∷ 1 ∷ 21 ∷ 0 ∷ 1 ∷ 0 ∷ 4 ∷ 3 ∷ 2 ∷ 1 ∷ 6 ∷ 0 ∷ 0 ∷ 0 ∷ 0 ∷ 0 ∷ 0 ∷ 0 ∷ 6 ∷ 255 ∷ 0 ∷ 0 ∷ 0 ∷ 0 ∷ 0 ∷ 1 ∷ []) [] 1 3
+    ∷ ran (128 ∷ 0 ∷ 0 ∷ 0 ∷ 0 ∷ 0 ∷ 0 ∷ 0 ∷ 21 ∷ 0 ∷ 0 ∷ 1 ∷ 255 ∷ 255 ∷ 0 ∷ 0 ∷ 6 ∷ 0 ∷ 0 ∷ 0 ∷ 1 ∷ 0 ∷ 0 ∷ 0 ∷ []) (replicate 65535 0) 1 3
+    ∷ ran (5 ∷ 0 ∷ 0 ∷ 0 ∷ 0xfe ∷ 0x0f ∷ replicate 32762 0) [] 4 2
+    -- dropped is number 2, short number 3
+    ∷ ran (6 ∷ 0 ∷ 0 ∷ 0 ∷ 0 ∷ 0 ∷ 0 ∷ 0 ∷ []) [] 2 1
+    ∷ ran (0x30 ∷ 0 ∷ 0 ∷ 0 ∷ 0 ∷ 0 ∷ 0 ∷ 0 ∷ []) [] 3 1
     -- number 11 for the lengths 0, 7, 9 and 32,776
     ∷ refuses [] [] 11
     ∷ refuses (replicate 7 6) [] 11

@@ -2,12 +2,12 @@
 //!
 //!     gate TREE FRAME...
 //!
-//! Each argument is a file. Prints a line for each frame and then their numbers. Ends with 1
-//! where a file cannot be read or the tree is refused.
+//! Each argument is a file. Prints the tree in words, a line for each frame and then their numbers.
+//! Ends with 1 where a file cannot be read or the tree is refused.
 
 use std::process::ExitCode;
 
-use dabberpearl::{Program, Refusal, Verdict};
+use dabberpearl::{Error, Program, Tree, Verdict};
 
 struct Gate {
     program: Program,
@@ -16,7 +16,7 @@ struct Gate {
 }
 
 impl Gate {
-    fn new(tree: &[u8]) -> Result<Gate, Refusal> {
+    fn new(tree: &Tree) -> Result<Gate, Error> {
         let program = Program::from_tree(tree)?;
         Ok(Gate {
             program,
@@ -33,7 +33,7 @@ impl Gate {
                 return Ok(());
             }
             Ok(outcome) => outcome.verdict.to_string(),
-            Err(refusal) => refusal.to_string(),
+            Err(error) => error.to_string(),
         };
         self.stopped += 1;
         Err(reason)
@@ -44,9 +44,12 @@ fn read(name: &str) -> Result<Vec<u8>, String> {
     std::fs::read(name).map_err(|error| format!("{name}: {error}"))
 }
 
-fn filter(tree: &str, frames: &[String]) -> Result<(), String> {
-    let mut gate = Gate::new(&read(tree)?).map_err(|refusal| format!("{tree}: {refusal}"))?;
-    println!("{tree}: {} instructions", gate.program.len());
+fn filter(name: &str, frames: &[String]) -> Result<(), String> {
+    let refused = |error: Error| format!("{name}: {error}");
+    let tree = Tree::try_from(&read(name)?[..]).map_err(refused)?;
+    println!("{name}: {tree}");
+    let mut gate = Gate::new(&tree).map_err(refused)?;
+    println!("{name}: {} instructions", gate.program.len());
     for name in frames {
         match gate.judge(&read(name)?) {
             Ok(()) => println!("{name}: passed"),

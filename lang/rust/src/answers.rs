@@ -1,9 +1,13 @@
 //! Answers: the numbers of libpft.a taken apart.
 
-use std::fmt;
+use core::fmt;
 
 /// Why a call is refused.
+///
+/// Later versions add refusals. A number that this version does not know is an
+/// [`Error::UnknownRefusal`].
 #[derive(Clone, Copy, Debug, PartialEq, Eq, Hash)]
+#[non_exhaustive]
 pub enum Refusal {
     /// 1: under 8 bytes, or mark, version or link differs.
     StrangeFile = 1,
@@ -15,9 +19,9 @@ pub enum Refusal {
     NotOneTree = 4,
     /// 5: RawIp, and an ethertype other than 0x0800 is to be tested.
     KindOnRaw = 5,
-    /// 6: port or range with a protocol other than 0, 5, 6, 10.
+    /// 6: port or range with a protocol other than none, Tcp, Udp and Sctp.
     PortProtocol = 6,
-    /// 7: RawIp with kind 17 or 19.
+    /// 7: RawIp with ether host or ether multicast.
     EtherOnRaw = 7,
     /// 8: a resolved distance exceeds 255.
     FarJump = 8,
@@ -30,8 +34,8 @@ pub enum Refusal {
 }
 
 impl Refusal {
-    /// All refusals, by number.
-    pub const ALL: [Refusal; 11] = [
+    /// All refusals, by number from 1 on.
+    pub const ALL: &'static [Refusal] = &[
         Refusal::StrangeFile,
         Refusal::WrongCount,
         Refusal::BadRecord,
@@ -45,7 +49,7 @@ impl Refusal {
         Refusal::OddProgram,
     ];
 
-    /// Its number, 1 to 11.
+    /// Its number.
     ///
     /// ```
     /// assert_eq!(dabberpearl::Refusal::FarJump.number(), 8);
@@ -74,10 +78,24 @@ impl Refusal {
             Refusal::OddProgram => "odd program",
         }
     }
+}
 
-    /// The refusal of a number that libpft.a answered, which is 1 to 11.
-    fn of(number: u32) -> Refusal {
-        Refusal::ALL[number as usize - 1]
+/// The refusal of a number, as one that another program has printed.
+///
+/// ```
+/// use dabberpearl::{Error, Refusal};
+///
+/// assert_eq!(Refusal::try_from(8), Ok(Refusal::FarJump));
+/// assert_eq!(Refusal::try_from(99), Err(Error::UnknownRefusal(99)));
+/// ```
+impl TryFrom<u32> for Refusal {
+    type Error = Error;
+
+    fn try_from(number: u32) -> Result<Refusal, Error> {
+        let mut known = Refusal::ALL.iter().copied();
+        known
+            .find(|refusal| refusal.number() == number)
+            .ok_or(Error::UnknownRefusal(number))
     }
 }
 
@@ -92,7 +110,74 @@ impl fmt::Display for Refusal {
     }
 }
 
-impl std::error::Error for Refusal {}
+impl core::error::Error for Refusal {}
+
+/// Why there is no answer.
+///
+/// All but [`Refused`](Error::Refused) speak of a libpft.a that is of another version than this
+/// crate.
+#[derive(Clone, Copy, Debug, PartialEq, Eq, Hash)]
+#[non_exhaustive]
+pub enum Error {
+    /// The call is refused.
+    Refused(Refusal),
+    /// The call is refused with a number that this crate has no word for.
+    UnknownRefusal(u32),
+    /// The answer is no number that this crate can take apart.
+    UnknownAnswer(u32),
+    /// libpft.a has this version, which is lower than [`VERSION`](crate::VERSION).
+    OldArchive(u32),
+}
+
+impl Error {
+    /// The number of a refusal, be its word known or not; none for the other errors.
+    ///
+    /// ```
+    /// use dabberpearl::{Error, Refusal};
+    ///
+    /// assert_eq!(Error::Refused(Refusal::FarJump).number(), Some(8));
+    /// assert_eq!(Error::UnknownRefusal(99).number(), Some(99));
+    /// assert_eq!(Error::OldArchive(0).number(), None);
+    /// ```
+    pub const fn number(self) -> Option<u32> {
+        match self {
+            Error::Refused(refusal) => Some(refusal.number()),
+            Error::UnknownRefusal(number) => Some(number),
+            _ => None,
+        }
+    }
+}
+
+impl From<Refusal> for Error {
+    fn from(refusal: Refusal) -> Error {
+        Error::Refused(refusal)
+    }
+}
+
+/// One line in words.
+///
+/// ```
+/// use dabberpearl::{Error, Refusal};
+///
+/// assert_eq!(Error::from(Refusal::FarJump).to_string(), "refused 8, far jump");
+/// assert_eq!(Error::UnknownRefusal(99).to_string(), "refused 99, unknown refusal");
+/// ```
+impl fmt::Display for Error {
+    fn fmt(&self, f: &mut fmt::Formatter<'_>) -> fmt::Result {
+        match self {
+            Error::Refused(refusal) => refusal.fmt(f),
+            Error::UnknownRefusal(number) => write!(f, "refused {number}, unknown refusal"),
+            Error::UnknownAnswer(answer) => write!(f, "libpft.a gives an unknown answer, {answer}"),
+            Error::OldArchive(version) => write!(
+                f,
+                "libpft.a has version {version}, at least {} is needed",
+                crate::VERSION
+            ),
+        }
+    }
+}
+
+impl core::error::Error for Error {}
 
 /// How a run ends.
 #[derive(Clone, Copy, Debug, PartialEq, Eq, Hash)]
@@ -109,14 +194,17 @@ pub enum Verdict {
 }
 
 impl Verdict {
-    /// The verdict of a number that libpft.a answered, which is 1 to 4.
-    fn of(number: u32) -> Verdict {
-        [
-            Verdict::Accepted,
-            Verdict::Dropped,
-            Verdict::Short,
-            Verdict::Broken,
-        ][number as usize - 1]
+    /// All verdicts, by number from 1 on.
+    const ALL: [Verdict; 4] = [
+        Verdict::Accepted,
+        Verdict::Dropped,
+        Verdict::Short,
+        Verdict::Broken,
+    ];
+
+    fn of(number: u32) -> Option<Verdict> {
+        let mut known = Verdict::ALL.into_iter();
+        known.find(|verdict| *verdict as u32 == number)
     }
 }
 
@@ -141,63 +229,114 @@ pub struct Outcome {
     pub steps: u32,
 }
 
+/// The error of a number that is a refusal's.
+fn refused(number: u32) -> Error {
+    Refusal::try_from(number).map_or_else(|unknown| unknown, Error::Refused)
+}
+
 /// Refusal × 65,536 + count.
-pub(crate) fn built(answer: u32) -> Result<usize, Refusal> {
+pub(crate) fn built(answer: u32) -> Result<usize, Error> {
     match answer >> 16 {
         0 => Ok(answer as usize),
-        refusal => Err(Refusal::of(refusal)),
+        refusal => Err(refused(refusal)),
     }
 }
 
 /// Verdict × 65,536 + steps, or (256 + refusal) × 65,536.
-pub(crate) fn ran(answer: u32) -> Result<Outcome, Refusal> {
+pub(crate) fn ran(answer: u32) -> Result<Outcome, Error> {
     match answer >> 16 {
-        high @ 0..=256 => Ok(Outcome {
-            verdict: Verdict::of(high),
-            steps: answer & 0xffff,
-        }),
-        high => Err(Refusal::of(high - 256)),
+        high @ 0..=256 => {
+            let verdict = Verdict::of(high).ok_or(Error::UnknownAnswer(answer))?;
+            let steps = answer & 0xffff;
+            Ok(Outcome { verdict, steps })
+        }
+        high => Err(refused(high - 256)),
     }
 }
 
 /// 1 or 0, or 256 + refusal.
-pub(crate) fn read(answer: u32) -> Result<bool, Refusal> {
+pub(crate) fn read(answer: u32) -> Result<bool, Error> {
     match answer {
-        0..=256 => Ok(answer == 1),
-        _ => Err(Refusal::of(answer - 256)),
+        0 => Ok(false),
+        1 => Ok(true),
+        2..=256 => Err(Error::UnknownAnswer(answer)),
+        _ => Err(refused(answer - 256)),
     }
+}
+
+/// Whether an archive of a version has all that this crate calls: versions only add.
+pub(crate) fn serves(version: u32) -> Result<(), Error> {
+    if version < crate::VERSION {
+        return Err(Error::OldArchive(version));
+    }
+    Ok(())
 }
 
 #[cfg(test)]
 mod tests {
     use super::*;
 
+    /// Numbers from the first that has no word, up to the largest that fits.
+    fn unknown(most: u32) -> impl Iterator<Item = u32> {
+        let first = Refusal::ALL.len() as u32 + 1;
+        (first..first + 300).chain([most])
+    }
+
     #[test]
     fn numbers_of_builds() {
         assert_eq!(built(2), Ok(2));
         assert_eq!(built(3_946), Ok(3_946));
-        for refusal in Refusal::ALL.into_iter().take(9) {
-            assert_eq!(built(refusal.number() * 65_536), Err(refusal));
+        for &refusal in Refusal::ALL {
+            assert_eq!(built(refusal.number() << 16), Err(refusal.into()));
+        }
+        for number in unknown(0xffff) {
+            assert_eq!(built(number << 16), Err(Error::UnknownRefusal(number)));
         }
     }
 
     #[test]
     fn numbers_of_runs() {
-        use Verdict::*;
-        for (number, verdict) in [(1, Accepted), (2, Dropped), (3, Short), (4, Broken)] {
+        for (verdict, number) in Verdict::ALL.into_iter().zip(1..) {
             for steps in [0, 1, 4_096] {
-                assert_eq!(ran(number * 65_536 + steps), Ok(Outcome { verdict, steps }));
+                assert_eq!(ran((number << 16) + steps), Ok(Outcome { verdict, steps }));
             }
         }
-        assert_eq!(ran((256 + 10) * 65_536), Err(Refusal::LongFrame));
-        assert_eq!(ran((256 + 11) * 65_536), Err(Refusal::OddProgram));
+        for number in [0, 5, 6, 255, 256] {
+            let answer = (number << 16) + 7;
+            assert_eq!(ran(answer), Err(Error::UnknownAnswer(answer)));
+        }
+        for &refusal in Refusal::ALL {
+            assert_eq!(ran((256 + refusal.number()) << 16), Err(refusal.into()));
+        }
+        for number in unknown(0xffff - 256) {
+            assert_eq!(
+                ran((256 + number) << 16),
+                Err(Error::UnknownRefusal(number))
+            );
+        }
     }
 
     #[test]
     fn numbers_of_readings() {
         assert_eq!((read(0), read(1)), (Ok(false), Ok(true)));
-        for refusal in Refusal::ALL {
-            assert_eq!(read(256 + refusal.number()), Err(refusal));
+        for answer in 2..=256 {
+            assert_eq!(read(answer), Err(Error::UnknownAnswer(answer)));
         }
+        for &refusal in Refusal::ALL {
+            assert_eq!(read(256 + refusal.number()), Err(refusal.into()));
+        }
+        for number in unknown(u32::MAX - 256) {
+            assert_eq!(read(256 + number), Err(Error::UnknownRefusal(number)));
+        }
+    }
+
+    #[test]
+    fn versions() {
+        assert_eq!(
+            serves(crate::VERSION - 1),
+            Err(Error::OldArchive(crate::VERSION - 1))
+        );
+        assert_eq!(serves(crate::VERSION), Ok(()));
+        assert_eq!(serves(crate::VERSION + 1), Ok(()));
     }
 }

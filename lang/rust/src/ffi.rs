@@ -1,4 +1,4 @@
-//! The three functions of libpft.a. A slice is passed as pointer and length.
+//! The functions of libpft.a. A slice is passed as pointer and length.
 
 mod c {
     #[link(name = "pft", kind = "static")]
@@ -21,6 +21,7 @@ mod c {
             frame: *const u8,
             frame_length: usize,
         ) -> u32;
+        pub fn pft_version() -> u32;
     }
 }
 
@@ -47,4 +48,9 @@ pub fn direct(tree: &[u8], frame: &[u8]) -> u32 {
     // SAFETY: each pointer and length is that of a slice which lives through the call; the
     // function writes neither and keeps neither.
     unsafe { c::pft_direct(tree.as_ptr(), tree.len(), frame.as_ptr(), frame.len()) }
+}
+
+pub fn version() -> u32 {
+    // SAFETY: the function takes nothing and touches no memory.
+    unsafe { c::pft_version() }
 }

@@ -1,10 +1,34 @@
-//! Classic BPF programs made from tree files, and their runs over frames.
+//! Classic BPF programs made from trees of conditions, and their runs over frames.
 //!
-//! A tree file holds conditions on a frame, joined by and, or and not. [`build`] turns it into a
-//! program, [`run`] runs a program over a frame, and [`direct`] reads the tree on a frame without
-//! one. All three are Rattle, proved equal to their definitions for all inputs, and linked from
-//! `libpft.a`; this crate is their safe face. What it adds, the taking apart of answers and the
-//! calls themselves, is tested and not proved.
+//! A [`Tree`] holds conditions on a frame, joined by and, or and not. [`Program::from_tree`] turns
+//! it into a program, [`Program::run`] runs that over a frame, and [`Tree::holds`] reads the tree
+//! on a frame without one.
+//!
+//! ```
+//! use dabberpearl::conditions::*;
+//! use dabberpearl::{Program, Tree, Verdict};
+//!
+//! let tree = Tree::ethernet(port(Destination, Tcp, 80).and(host(Source, [10, 0, 0, 1]).not()))?;
+//! let program = Program::from_tree(&tree)?;
+//!
+//! let mut frame = [0; 78];
+//! frame[12] = 0x08; // ethertype 0x0800
+//! frame[14] = 0x45; // IPv4, a header of 20 bytes
+//! frame[23] = 6; // TCP
+//! frame[37] = 80; // destination port
+//! assert_eq!(program.run(&frame)?.verdict, Verdict::Accepted);
+//! assert_eq!(program.run(&frame[..37])?.verdict, Verdict::Short);
+//! assert!(tree.holds(&frame)?);
+//!
+//! frame[26..30].copy_from_slice(&[10, 0, 0, 1]); // source address
+//! assert!(!program.accepts(&frame));
+//! # Ok::<(), dabberpearl::Error>(())
+//! ```
+//!
+//! [`build`], [`run`] and [`direct`] do the same with bytes of the caller's. All three are Rattle,
+//! proved equal to their definitions for all inputs, and linked from `libpft.a`; this crate is
+//! their safe face. What it adds, the making and taking apart of trees and answers and the calls
+//! themselves, is tested and not proved.
 //!
 //! What is proved of an accepted tree, in short: its program has 2 to 3,946 instructions, all
 //! jumps lead forward, and a run takes no more steps than that. Where a run is not
@@ -12,42 +36,49 @@
 //! same whatever bytes follow. No run is short on a frame that has 64 bytes past the start of its
 //! network header, and none is ever [`Broken`](Verdict::Broken).
 //!
-//! ```
-//! use dabberpearl::{direct, Program, Verdict};
-//!
-//! // Ethernet, one record: protocol Ip.
-//! let tree = [&b"PFT\0\x01\x01\0\x01\x0a\0\x01"[..], &[0; 21]].concat();
-//! let program = Program::from_tree(&tree)?;
-//! assert_eq!(program.len(), 4);
-//!
-//! let mut frame = [0; 60];
-//! assert_eq!(program.run(&frame)?.verdict, Verdict::Dropped);
-//! frame[12] = 0x08; // ethertype 0x0800
-//! assert_eq!(program.run(&frame)?.verdict, Verdict::Accepted);
-//! assert_eq!(program.run(&frame[..13])?.verdict, Verdict::Short);
-//! assert!(direct(&tree, &frame)?);
-//! # Ok::<(), dabberpearl::Refusal>(())
-//! ```
-//!
 //! # Linking
 //!
 //! The build looks for `libpft.a` in the folder that the variable `PFT_LIB_DIR` names, or else in
 //! `target/staticlib` of the repository, where `rt staticlib pft` writes it. It is for x86-64.
+//! An archive that is older than this crate is an [`Error::OldArchive`]; one that is newer serves,
+//! and a number of its own is an error, never a panic.
 //!
-//! # Stack
+//! # Memory
 //!
-//! A build takes up to 256 KiB of stack, whatever the thread; the other calls a tenth of that.
+//! The crate takes `core` alone and no heap. A [`Tree`] has 3 KiB and a [`Program`] 31 KiB. A build
+//! takes up to 256 KiB of stack, whatever the thread; the other calls a tenth of that.
 
+#![no_std]
 #![deny(missing_docs, unsafe_code)]
 
 mod answers;
+mod condition;
+pub mod conditions;
 #[allow(unsafe_code)]
 mod ffi;
 mod program;
+mod record;
+mod terms;
+mod tree;
 
-pub use answers::{Outcome, Refusal, Verdict};
+pub use answers::{Error, Outcome, Refusal, Verdict};
+pub use condition::Condition;
 pub use program::{Instruction, Instructions, Program};
+pub use record::Record;
+pub use terms::{Direction, Link, Mac, NoMac, Protocol};
+pub use tree::{Part, Records, Tree};
 
+// The examples of the README are tests.
+#[cfg(doctest)]
+#[doc = include_str!("../../README.md")]
+struct Readme;
+
+/// The version of libpft.a that this crate is made for. Each addition to the interface raises it
+/// by one.
+pub const VERSION: u32 = 1;
+
+/// The most records of a tree.
+pub const MAX_RECORDS: usize = 128;
 /// The largest tree file: 8 bytes and 128 records of 24.
 pub const MAX_TREE: usize = 3_080;
 /// The most instructions of a built program.
@@ -59,6 +90,26 @@ pub const MAX_PROGRAM: usize = 8 * MAX_INSTRUCTIONS;
 pub const MAX_RUN: usize = 32_768;
 /// The longest frame that is run or read.
 pub const MAX_FRAME: usize = 65_535;
+
+/// The version of the libpft.a that is linked.
+pub fn archive_version() -> u32 {
+    ffi::version()
+}
+
+/// Whether the libpft.a that is linked has all that this crate calls: its version is [`VERSION`]
+/// or a later one. [`Program::from_tree`] and the reading of a [`Tree`] ask this; who calls
+/// [`build`], [`run`] or [`direct`] asks once.
+///
+/// # Errors
+///
+/// [`OldArchive`](Error::OldArchive) with the archive's version.
+///
+/// ```
+/// assert_eq!(dabberpearl::check_archive(), Ok(()));
+/// ```
+pub fn check_archive() -> Result<(), Error> {
+    answers::serves(archive_version())
+}
 
 /// Builds the program of a tree file into a lent buffer, and answers the count of its
 /// instructions.
@@ -72,19 +123,19 @@ pub const MAX_FRAME: usize = 65_535;
 /// then 9. The whole buffer is zero after each.
 ///
 /// ```
-/// use dabberpearl::{build, Refusal};
+/// use dabberpearl::{build, conditions::*, Refusal, Tree};
 ///
 /// let mut buffer = [0xff; 40];
-/// assert_eq!(build(b"no tree file", &mut buffer), Err(Refusal::StrangeFile));
+/// assert_eq!(build(b"no tree file", &mut buffer), Err(Refusal::StrangeFile.into()));
 /// assert_eq!(buffer, [0; 40]);
 ///
-/// // RawIp, protocol Ip: accept all.
-/// let tree = [&b"PFT\0\x01\x02\0\x01\x0a\0\x01"[..], &[0; 21]].concat();
-/// assert_eq!(build(&tree, &mut buffer), Ok(2));
+/// let tree = Tree::raw_ip(protocol(Ip))?;
+/// assert_eq!(build(tree.as_bytes(), &mut buffer), Ok(2));
 /// assert_eq!(buffer[..8], [6, 0, 0, 0, 0xff, 0xff, 0xff, 0xff]);
-/// assert_eq!(build(&tree, &mut buffer[..15]), Err(Refusal::ShortBuffer));
+/// assert_eq!(build(tree.as_bytes(), &mut buffer[..15]), Err(Refusal::ShortBuffer.into()));
+/// # Ok::<(), dabberpearl::Error>(())
 /// ```
-pub fn build(tree: &[u8], program: &mut [u8]) -> Result<usize, Refusal> {
+pub fn build(tree: &[u8], program: &mut [u8]) -> Result<usize, Error> {
     answers::built(ffi::build(tree, program))
 }
 
@@ -101,9 +152,9 @@ pub fn build(tree: &[u8], program: &mut [u8]) -> Result<usize, Refusal> {
 ///
 /// let ret_1 = [6, 0, 0, 0, 1, 0, 0, 0];
 /// assert_eq!(run(&ret_1, b""), Ok(Outcome { verdict: Verdict::Accepted, steps: 1 }));
-/// assert_eq!(run(&ret_1[..7], b""), Err(Refusal::OddProgram));
+/// assert_eq!(run(&ret_1[..7], b""), Err(Refusal::OddProgram.into()));
 /// ```
-pub fn run(program: &[u8], frame: &[u8]) -> Result<Outcome, Refusal> {
+pub fn run(program: &[u8], frame: &[u8]) -> Result<Outcome, Error> {
     answers::ran(ffi::run(program, frame))
 }
 
@@ -116,13 +167,13 @@ pub fn run(program: &[u8], frame: &[u8]) -> Result<Outcome, Refusal> {
 /// to 8 can be read.
 ///
 /// ```
-/// use dabberpearl::direct;
+/// use dabberpearl::{conditions::*, direct, Tree};
 ///
-/// // Ethernet, ether multicast: the lowest bit of the first byte.
-/// let tree = [&b"PFT\0\x01\x01\0\x01\x13"[..], &[0; 23]].concat();
-/// assert_eq!(direct(&tree, &[0x01]), Ok(true));
-/// assert_eq!(direct(&tree, &[]), Ok(false));
+/// let tree = Tree::ethernet(ether_multicast())?;
+/// assert_eq!(direct(tree.as_bytes(), &[0x01]), Ok(true));
+/// assert_eq!(direct(tree.as_bytes(), &[]), Ok(false));
+/// # Ok::<(), dabberpearl::Error>(())
 /// ```
-pub fn direct(tree: &[u8], frame: &[u8]) -> Result<bool, Refusal> {
+pub fn direct(tree: &[u8], frame: &[u8]) -> Result<bool, Error> {
     answers::read(ffi::direct(tree, frame))
 }

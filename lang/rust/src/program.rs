@@ -1,65 +1,77 @@
 //! A built program and its instructions.
 
-use crate::{build, run, Outcome, Refusal, Verdict, MAX_PROGRAM};
+use core::fmt;
+use core::iter::FusedIterator;
+use core::slice;
+
+use crate::{build, check_archive, run, Error, Outcome, Verdict, MAX_PROGRAM};
+
+/// The bytes of an instruction.
+const INSTRUCTION: usize = 8;
 
 /// The program of an accepted tree.
 ///
-/// Its frames can only be refused as too long, and its runs are never broken.
-#[derive(Clone, Debug, PartialEq, Eq, Hash)]
+/// Its frames can only be refused as too long, and its runs are never broken. It needs no heap and
+/// is 31 KiB large whatever its length: best lent, or put into a `Box`. [`build`] takes a buffer of
+/// the caller's instead.
+#[derive(Clone, PartialEq, Eq, Hash)]
 pub struct Program {
-    bytes: Box<[u8]>,
+    /// The instructions, and zero after the last.
+    bytes: [u8; MAX_PROGRAM],
+    length: usize,
 }
 
 impl Program {
-    /// Builds the program of a tree file.
+    /// Builds the program of a [`Tree`](crate::Tree), or of the bytes of a tree file.
     ///
     /// # Errors
     ///
-    /// Refusals 1 to 8.
+    /// Refusals 1 to 8, for a [`Tree`](crate::Tree) 5 to 8. [`OldArchive`](Error::OldArchive) where
+    /// [`check_archive`] says so.
     ///
     /// ```
-    /// use dabberpearl::{Program, Refusal};
+    /// use dabberpearl::{conditions::*, Program, Refusal, Tree};
     ///
-    /// // RawIp, ether multicast.
-    /// let tree = [&b"PFT\0\x01\x02\0\x01\x13"[..], &[0; 23]].concat();
-    /// assert_eq!(Program::from_tree(&tree), Err(Refusal::EtherOnRaw));
+    /// let tree = Tree::raw_ip(ether_multicast())?;
+    /// assert_eq!(Program::from_tree(&tree), Err(Refusal::EtherOnRaw.into()));
+    /// assert_eq!(Program::from_tree(b"no tree file"), Err(Refusal::StrangeFile.into()));
+    /// # Ok::<(), dabberpearl::Error>(())
     /// ```
-    pub fn from_tree(tree: &[u8]) -> Result<Program, Refusal> {
-        let mut bytes = vec![0; MAX_PROGRAM];
-        let count = build(tree, &mut bytes)?;
-        bytes.truncate(8 * count);
-        Ok(Program {
-            bytes: bytes.into_boxed_slice(),
-        })
+    pub fn from_tree<T: AsRef<[u8]> + ?Sized>(tree: &T) -> Result<Program, Error> {
+        check_archive()?;
+        let mut program = Program {
+            bytes: [0; MAX_PROGRAM],
+            length: 0,
+        };
+        program.length = INSTRUCTION * build(tree.as_ref(), &mut program.bytes)?;
+        Ok(program)
     }
 
     /// Its bytes, 8 for each instruction, little-endian. On a little-endian machine they are those
     /// of an array of Linux's `struct sock_filter`.
     pub fn as_bytes(&self) -> &[u8] {
-        &self.bytes
+        &self.bytes[..self.length]
     }
 
     /// The count of its instructions, 2 to [`MAX_INSTRUCTIONS`](crate::MAX_INSTRUCTIONS).
     #[allow(clippy::len_without_is_empty)]
     pub fn len(&self) -> usize {
-        self.bytes.len() / 8
+        self.length / INSTRUCTION
     }
 
     /// Its instructions in order.
     ///
     /// ```
-    /// use dabberpearl::Program;
+    /// use dabberpearl::{conditions::*, Instruction, Program, Tree};
     ///
-    /// // Ethernet, not Ip: `pft-list` prints these.
-    /// let tree = [&b"PFT\0\x01\x01\0\x02\x03"[..], &[0; 23], &[10, 0, 1], &[0; 21]].concat();
-    /// let program = Program::from_tree(&tree)?;
-    /// let lines: Vec<String> = program.instructions().map(|i| i.to_string()).collect();
-    /// assert_eq!(lines, ["40 0 0 12", "21 0 1 2048", "5 0 0 1", "6 0 0 4294967295", "6 0 0 0"]);
-    /// # Ok::<(), dabberpearl::Refusal>(())
+    /// let program = Program::from_tree(&Tree::raw_ip(protocol(Ip))?)?;
+    /// let accept = Instruction { code: 6, jt: 0, jf: 0, k: 0xffff_ffff };
+    /// assert!(program.instructions().eq([accept, Instruction { k: 0, ..accept }]));
+    /// # Ok::<(), dabberpearl::Error>(())
     /// ```
     pub fn instructions(&self) -> Instructions<'_> {
         Instructions {
-            rest: self.bytes.chunks_exact(8),
+            rest: self.as_bytes().chunks_exact(INSTRUCTION),
         }
     }
 
@@ -67,38 +79,71 @@ impl Program {
     ///
     /// # Errors
     ///
-    /// [`LongFrame`](Refusal::LongFrame) alone.
-    pub fn run(&self, frame: &[u8]) -> Result<Outcome, Refusal> {
-        run(&self.bytes, frame)
+    /// [`LongFrame`](crate::Refusal::LongFrame) alone.
+    pub fn run(&self, frame: &[u8]) -> Result<Outcome, Error> {
+        run(self.as_bytes(), frame)
     }
 
     /// Whether a frame is accepted. One that is dropped, short or too long is not.
     ///
     /// ```
-    /// use dabberpearl::Program;
+    /// use dabberpearl::{conditions::*, Program, Tree};
     ///
-    /// // RawIp, protocol Ip: true of every frame.
-    /// let tree = [&b"PFT\0\x01\x02\0\x01\x0a\0\x01"[..], &[0; 21]].concat();
-    /// let program = Program::from_tree(&tree)?;
+    /// let program = Program::from_tree(&Tree::raw_ip(protocol(Ip))?)?;
     /// assert!(program.accepts(&[]));
     /// assert!(program.accepts(&[0; 65_535]));
     /// assert!(!program.accepts(&[0; 65_536]));
-    /// # Ok::<(), dabberpearl::Refusal>(())
+    /// # Ok::<(), dabberpearl::Error>(())
     /// ```
     pub fn accepts(&self, frame: &[u8]) -> bool {
-        matches!(
-            self.run(frame),
-            Ok(Outcome {
-                verdict: Verdict::Accepted,
-                ..
-            })
-        )
+        self.run(frame)
+            .is_ok_and(|outcome| outcome.verdict == Verdict::Accepted)
     }
 }
 
 impl AsRef<[u8]> for Program {
     fn as_ref(&self) -> &[u8] {
-        &self.bytes
+        self.as_bytes()
+    }
+}
+
+impl<'a> IntoIterator for &'a Program {
+    type Item = Instruction;
+    type IntoIter = Instructions<'a>;
+
+    fn into_iter(self) -> Instructions<'a> {
+        self.instructions()
+    }
+}
+
+/// The count, then a line for each instruction: what `pft-list` prints.
+///
+/// ```
+/// use dabberpearl::{conditions::*, Program, Tree};
+///
+/// let program = Program::from_tree(&Tree::ethernet(protocol(Ip).not())?)?;
+/// assert_eq!(program.to_string(), "\
+/// 5
+/// 40 0 0 12
+/// 21 0 1 2048
+/// 5 0 0 1
+/// 6 0 0 4294967295
+/// 6 0 0 0
+/// ");
+/// # Ok::<(), dabberpearl::Error>(())
+/// ```
+impl fmt::Display for Program {
+    fn fmt(&self, f: &mut fmt::Formatter<'_>) -> fmt::Result {
+        writeln!(f, "{}", self.len())?;
+        self.into_iter()
+            .try_for_each(|instruction| writeln!(f, "{instruction}"))
+    }
+}
+
+/// The list of its instructions.
+impl fmt::Debug for Program {
+    fn fmt(&self, f: &mut fmt::Formatter<'_>) -> fmt::Result {
+        f.debug_list().entries(self).finish()
     }
 }
 
@@ -115,9 +160,20 @@ pub struct Instruction {
     pub k: u32,
 }
 
+impl Instruction {
+    fn of(b: &[u8]) -> Instruction {
+        Instruction {
+            code: u16::from_le_bytes([b[0], b[1]]),
+            jt: b[2],
+            jf: b[3],
+            k: u32::from_le_bytes([b[4], b[5], b[6], b[7]]),
+        }
+    }
+}
+
 /// Code, jt, jf and k, decimal, as `pft-list` prints them.
-impl std::fmt::Display for Instruction {
-    fn fmt(&self, f: &mut std::fmt::Formatter<'_>) -> std::fmt::Result {
+impl fmt::Display for Instruction {
+    fn fmt(&self, f: &mut fmt::Formatter<'_>) -> fmt::Result {
         write!(f, "{} {} {} {}", self.code, self.jt, self.jf, self.k)
     }
 }
@@ -125,20 +181,14 @@ impl std::fmt::Display for Instruction {
 /// The instructions of a program in order; see [`Program::instructions`].
 #[derive(Clone, Debug)]
 pub struct Instructions<'a> {
-    rest: std::slice::ChunksExact<'a, u8>,
+    rest: slice::ChunksExact<'a, u8>,
 }
 
 impl Iterator for Instructions<'_> {
     type Item = Instruction;
 
     fn next(&mut self) -> Option<Instruction> {
-        let b = self.rest.next()?;
-        Some(Instruction {
-            code: u16::from_le_bytes([b[0], b[1]]),
-            jt: b[2],
-            jf: b[3],
-            k: u32::from_le_bytes([b[4], b[5], b[6], b[7]]),
-        })
+        self.rest.next().map(Instruction::of)
     }
 
     fn size_hint(&self) -> (usize, Option<usize>) {
@@ -146,4 +196,11 @@ impl Iterator for Instructions<'_> {
     }
 }
 
+impl DoubleEndedIterator for Instructions<'_> {
+    fn next_back(&mut self) -> Option<Instruction> {
+        self.rest.next_back().map(Instruction::of)
+    }
+}
+
 impl ExactSizeIterator for Instructions<'_> {}
+impl FusedIterator for Instructions<'_> {}

@@ -4,7 +4,7 @@ mod common;
 
 use common::*;
 use dabberpearl::{
-    build, direct, run, Program, Refusal, MAX_FRAME, MAX_PROGRAM, MAX_RUN, MAX_TREE,
+    build, direct, run, Error, Program, Refusal, MAX_FRAME, MAX_PROGRAM, MAX_RUN, MAX_TREE,
 };
 
 const MARGIN: usize = 24;
@@ -13,7 +13,7 @@ const STALE: u8 = 0x5a;
 
 /// Builds into the middle of a larger buffer; nothing around it may change. The answer, and the
 /// lent part after.
-fn build_into(tree: &[u8], length: usize) -> (Result<usize, Refusal>, Vec<u8>) {
+fn build_into(tree: &[u8], length: usize) -> (Result<usize, Error>, Vec<u8>) {
     let mut space = vec![CANARY; length + 2 * MARGIN];
     space[MARGIN..MARGIN + length].fill(STALE);
     let answer = build(tree, &mut space[MARGIN..MARGIN + length]);
@@ -103,7 +103,7 @@ fn of_builds() {
     for (tree, refusal, number, word) in refused_files() {
         for length in [0, 1, 8, 4_000, MAX_PROGRAM, 40_000] {
             let (answer, buffer) = build_into(&tree, length);
-            assert_eq!(answer, Err(refusal));
+            assert_eq!(answer, Err(refusal.into()));
             assert!(
                 buffer.iter().all(|&b| b == 0),
                 "refusal {number} leaves a byte"
@@ -111,7 +111,7 @@ fn of_builds() {
         }
         assert_eq!((refusal.number(), refusal.word()), (number, word));
         assert_eq!(refusal.to_string(), format!("refused {number}, {word}"));
-        assert_eq!(Program::from_tree(&tree), Err(refusal));
+        assert_eq!(Program::from_tree(&tree), Err(refusal.into()));
     }
 }
 
@@ -126,7 +126,7 @@ fn of_short_buffers() {
         let exact = program.as_bytes().len();
         for length in [0, 1, exact - 8, exact - 1] {
             let (answer, buffer) = build_into(&tree, length);
-            assert_eq!(answer, Err(Refusal::ShortBuffer));
+            assert_eq!(answer, Err(Refusal::ShortBuffer.into()));
             assert_eq!(buffer, vec![0; length]);
         }
         for length in [exact, exact + 1, exact + 8, MAX_PROGRAM, 40_000] {
@@ -147,13 +147,13 @@ fn of_runs() {
     let ret = [6, 0, 0, 0, 1, 0, 0, 0];
     let (frame, long) = (vec![0; MAX_FRAME], vec![0; MAX_FRAME + 1]);
     assert_eq!(run(&ret, &frame).map(|o| o.steps), Ok(1));
-    assert_eq!(run(&ret, &long), Err(Refusal::LongFrame));
+    assert_eq!(run(&ret, &long), Err(Refusal::LongFrame.into()));
     for length in [0, 1, 7, 9, MAX_RUN - 1, MAX_RUN + 1, MAX_RUN + 8] {
         let odd = vec![0; length];
-        assert_eq!(run(&odd, &frame), Err(Refusal::OddProgram));
+        assert_eq!(run(&odd, &frame), Err(Refusal::OddProgram.into()));
         assert_eq!(
             run(&odd, &long),
-            Err(Refusal::OddProgram),
+            Err(Refusal::OddProgram.into()),
             "11 comes before 10"
         );
     }
@@ -170,11 +170,11 @@ fn of_readings() {
         } else {
             Refusal::LongFrame
         };
-        assert_eq!(direct(&tree, &long), Err(at_once));
+        assert_eq!(direct(&tree, &long), Err(at_once.into()));
         let answer = direct(&tree, &long[..64]);
         assert_eq!(
             answer.err(),
-            (number <= 4).then_some(refusal),
+            (number <= 4).then_some(refusal.into()),
             "5 to 8 are the build's alone"
         );
     }
@@ -186,29 +186,29 @@ fn in_order() {
     let mut records = vec![record(99); 2];
     let mut tree = file(9, records.clone());
     tree.push(0);
-    assert_eq!(Program::from_tree(&tree), Err(Refusal::StrangeFile));
+    assert_eq!(Program::from_tree(&tree), Err(Refusal::StrangeFile.into()));
     tree[5] = RAW_IP;
-    assert_eq!(Program::from_tree(&tree), Err(Refusal::WrongCount));
+    assert_eq!(Program::from_tree(&tree), Err(Refusal::WrongCount.into()));
     tree.pop();
-    assert_eq!(Program::from_tree(&tree), Err(Refusal::BadRecord));
+    assert_eq!(Program::from_tree(&tree), Err(Refusal::BadRecord.into()));
     records = [protocol(IP6), ether_multicast()].concat();
     assert_eq!(
         Program::from_tree(&file(RAW_IP, records)),
-        Err(Refusal::NotOneTree)
+        Err(Refusal::NotOneTree.into())
     );
     let five = and(protocol(IP6), ether_multicast());
     assert_eq!(
         Program::from_tree(&file(RAW_IP, five)),
-        Err(Refusal::KindOnRaw)
+        Err(Refusal::KindOnRaw.into())
     );
     let seven = and(ether_multicast(), protocol(IP6));
     assert_eq!(
         Program::from_tree(&file(RAW_IP, seven)),
-        Err(Refusal::EtherOnRaw)
+        Err(Refusal::EtherOnRaw.into())
     );
     assert_eq!(
         build_into(&far(EITHER), 0).0,
-        Err(Refusal::FarJump),
+        Err(Refusal::FarJump.into()),
         "8 comes before 9"
     );
 }

@@ -3,14 +3,17 @@
 mod common;
 
 use common::*;
-use dabberpearl::{Instruction, Outcome, Program, Refusal, Verdict};
+use dabberpearl::{Error, Instruction, Outcome, Program, Refusal, Verdict};
 
 fn program(link: u8, records: Vec<Record>) -> Program {
     Program::from_tree(&file(link, records)).expect("an accepted tree")
 }
 
 fn refusal(link: u8, records: Vec<Record>) -> Refusal {
-    Program::from_tree(&file(link, records)).expect_err("a refused tree")
+    match Program::from_tree(&file(link, records)) {
+        Err(Error::Refused(refusal)) => refusal,
+        other => panic!("{other:?}"),
+    }
 }
 
 fn at(program: &Program, i: usize) -> Instruction {
@@ -131,5 +134,8 @@ fn distances() {
     let p = Program::from_tree(&far(BOTH)).expect("an accepted tree");
     let longest = p.instructions().map(|i| i.jt.max(i.jf)).max();
     assert_eq!(longest, Some(255));
-    assert_eq!(Program::from_tree(&far(EITHER)), Err(Refusal::FarJump));
+    assert_eq!(
+        Program::from_tree(&far(EITHER)),
+        Err(Refusal::FarJump.into())
+    );
 }

@@ -9,9 +9,9 @@ use dabberpearl::{build, direct, run, Outcome, Program, Refusal, Verdict, MAX_FR
 fn empty() {
     let tree = file(RAW_IP, protocol(IP));
     let program = Program::from_tree(&tree).expect("an accepted tree");
-    assert_eq!(build(&[], &mut []), Err(Refusal::StrangeFile));
-    assert_eq!(build(&tree, &mut []), Err(Refusal::ShortBuffer));
-    assert_eq!(run(&[], &[]), Err(Refusal::OddProgram));
+    assert_eq!(build(&[], &mut []), Err(Refusal::StrangeFile.into()));
+    assert_eq!(build(&tree, &mut []), Err(Refusal::ShortBuffer.into()));
+    assert_eq!(run(&[], &[]), Err(Refusal::OddProgram.into()));
     assert_eq!(
         run(program.as_bytes(), &[]),
         Ok(Outcome {
@@ -20,7 +20,7 @@ fn empty() {
         })
     );
     assert_eq!(direct(&tree, &[]), Ok(true));
-    assert_eq!(direct(&[], &[]), Err(Refusal::StrangeFile));
+    assert_eq!(direct(&[], &[]), Err(Refusal::StrangeFile.into()));
 }
 
 /// An IPv4 frame on Ethernet, TCP from port 1024 to a port.
@@ -68,7 +68,7 @@ fn long_frames() {
     }
     assert_eq!(
         program.run(&tcp_frame(80, MAX_FRAME + 1)),
-        Err(Refusal::LongFrame)
+        Err(Refusal::LongFrame.into())
     );
     assert!(!program.accepts(&tcp_frame(80, MAX_FRAME + 1)));
     // The last two bytes of the longest frame: ldh 65533, jeq 0x0050.
@@ -126,30 +126,6 @@ fn most_steps() {
             steps: 4_096
         })
     );
-}
-
-fn random_leaf(rng: &mut Rng) -> Vec<Record> {
-    match rng.below(6) {
-        0 => protocol([IP, IP6, TCP, UDP, ICMP, ICMP6][rng.below(6)]),
-        1 => port(
-            rng.below(4) as u8,
-            [NONE, TCP, UDP][rng.below(3)],
-            [53, 80][rng.below(2)],
-        ),
-        2 => host6(rng.below(4) as u8),
-        3 => net6([0, 1, 32, 127, 128, 255][rng.below(6)]),
-        4 => ether_multicast(),
-        _ => vec![record([20, 21, 22][rng.below(3)])],
-    }
-}
-
-fn random_tree(rng: &mut Rng, depth: usize) -> Vec<Record> {
-    match if depth == 0 { 0 } else { rng.below(5) } {
-        0 => random_leaf(rng),
-        1 | 2 => and(random_tree(rng, depth - 1), random_tree(rng, depth - 1)),
-        3 => or(random_tree(rng, depth - 1), random_tree(rng, depth - 1)),
-        _ => not(random_tree(rng, depth - 1)),
-    }
 }
 
 /// A frame that reaches 64 bytes past the network start, of few values.
@@ -211,12 +187,12 @@ fn from_several_threads() {
         far(BOTH),
         far(EITHER),
     ];
-    let alone: Vec<_> = trees.iter().map(|t| Program::from_tree(t)).collect();
+    let alone: Vec<_> = trees.iter().map(Program::from_tree).collect();
     std::thread::scope(|scope| {
         for _ in 0..4 {
             scope.spawn(|| {
                 for _ in 0..200 {
-                    let now: Vec<_> = trees.iter().map(|t| Program::from_tree(t)).collect();
+                    let now: Vec<_> = trees.iter().map(Program::from_tree).collect();
                     assert_eq!(now, alone);
                 }
             });

@@ -101,3 +101,27 @@ impl Rng {
         ((z ^ z >> 31) % n) as usize
     }
 }
+
+fn random_leaf(rng: &mut Rng) -> Vec<Record> {
+    match rng.below(6) {
+        0 => protocol([IP, IP6, TCP, UDP, ICMP, ICMP6][rng.below(6)]),
+        1 => port(
+            rng.below(4) as u8,
+            [NONE, TCP, UDP][rng.below(3)],
+            [53, 80][rng.below(2)],
+        ),
+        2 => host6(rng.below(4) as u8),
+        3 => net6([0, 1, 32, 127, 128, 255][rng.below(6)]),
+        4 => ether_multicast(),
+        _ => vec![record([20, 21, 22][rng.below(3)])],
+    }
+}
+
+pub fn random_tree(rng: &mut Rng, depth: usize) -> Vec<Record> {
+    match if depth == 0 { 0 } else { rng.below(5) } {
+        0 => random_leaf(rng),
+        1 | 2 => and(random_tree(rng, depth - 1), random_tree(rng, depth - 1)),
+        3 => or(random_tree(rng, depth - 1), random_tree(rng, depth - 1)),
+        _ => not(random_tree(rng, depth - 1)),
+    }
+}

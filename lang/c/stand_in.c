@@ -1,0 +1,32 @@
+/*
+ * A stand-in for libpft.a of another version, which refuses every call with a number that has no
+ * word. Without VERSION it is an archive from before there was one.
+ */
+#include "pft.h"
+
+#define REFUSAL 99u
+
+#ifdef VERSION
+uint32_t pft_version(void)
+{
+    return VERSION;
+}
+#endif
+
+uint32_t pft_build(const uint8_t *tree, size_t tree_length, uint8_t *program, size_t program_length)
+{
+    (void)tree, (void)tree_length, (void)program, (void)program_length;
+    return REFUSAL << 16;
+}
+
+uint32_t pft_run(const uint8_t *program, size_t program_length, const uint8_t *frame, size_t frame_length)
+{
+    (void)program, (void)program_length, (void)frame, (void)frame_length;
+    return (256 + REFUSAL) << 16;
+}
+
+uint32_t pft_direct(const uint8_t *tree, size_t tree_length, const uint8_t *frame, size_t frame_length)
+{
+    (void)tree, (void)tree_length, (void)frame, (void)frame_length;
+    return 256 + REFUSAL;
+}
