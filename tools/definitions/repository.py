@@ -85,8 +85,8 @@ def listed_crates():
 
 
 # The crates of definitions, and in them what functions promise one another, which stands on the code's crates.
-DEFINITIONS = ["error", "bpf", "vm", "ast", "direct", "codegen", "pft"]
-PROMISES = {"pft": ["Promises"]}
+DEFINITIONS = ["error", "bpf", "vm", "ast", "direct", "codegen", "build"]
+PROMISES = {"build": ["Promises"]}
 
 
 def definition_crates():

@@ -738,6 +738,7 @@ READINGS = [
         "10 => &[132],",
         """10 => &[132],
             11 => &[6],""",
+        "numbers",
     ),
     (
         "later fragments have ports",

@@ -94,7 +94,9 @@ const NUMBERS: [u8; 6] = [6, 17, 1, 58, 2, 132];
 impl Aim<'_> {
     fn protocol(&mut self, r: &[u8]) {
         match r[2] {
-            1..=4 => self.to.kind([0x0800, 0x86DD, 0x0806, 0x8035][r[2] as usize - 1]),
+            1..=4 => self
+                .to
+                .kind([0x0800, 0x86DD, 0x0806, 0x8035][r[2] as usize - 1]),
             8 => self.to.protocol6(58),
             5..=10 => self.to.protocol4(NUMBERS[r[2] as usize - 5]),
             11 => self.to.protocol4(r[3]),

@@ -78,7 +78,11 @@ fn shortened(rng: &mut Rng, records: &[Record]) -> Vec<Record> {
         AND | OR => {
             let middle = end(part, 1);
             let (left, right) = (&part[1..middle], &part[middle..]);
-            if left.len() < right.len() { right } else { left }
+            if left.len() < right.len() {
+                right
+            } else {
+                left
+            }
         }
         NOT => &part[1..],
         _ => part,

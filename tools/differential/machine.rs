@@ -109,7 +109,9 @@ fn compare(program: &[u8], frame: &[u8], met: &mut Met) {
     met.note(there);
     let size = program.len() + frame.len();
     if here != there {
-        met.parts.machine.differs(size, || least_difference(program, frame));
+        met.parts
+            .machine
+            .differs(size, || least_difference(program, frame));
     } else if lent.0 != program || lent.1 != frame {
         met.parts.machine.differs(size, || {
             format!(

@@ -103,10 +103,14 @@ fn end_with_reader() {
 
 fn number(word: &str) -> u64 {
     let Ok(number) = word.parse() else {
-        fail(&format!("not a number from 0 to 18446744073709551615: {word}"));
+        fail(&format!(
+            "not a number from 0 to 18446744073709551615: {word}"
+        ));
     };
     number
 }
+
+const USAGE: &str = "usage: differential [--print | --first STAGE] SEED COUNT";
 
 fn main() {
     end_with_reader();
@@ -116,6 +120,7 @@ fn main() {
         [seed, count] => compare_all(number(seed), number(count)),
         ["--first", stage, seed, count] => compare_first(stage, number(seed), number(count)),
         ["--print", seed, count] => print_all(number(seed), number(count)),
-        _ => fail("usage: differential [--print | --first STAGE] SEED COUNT"),
+        ["--help"] => println!("{USAGE}"),
+        _ => fail(USAGE),
     }
 }

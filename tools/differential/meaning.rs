@@ -145,7 +145,11 @@ impl View<'_> {
             1 | 2 => {
                 let (left, rest) = self.tree(rest);
                 let (right, rest) = self.tree(rest);
-                let joined = if r[0] == 1 { left && right } else { left || right };
+                let joined = if r[0] == 1 {
+                    left && right
+                } else {
+                    left || right
+                };
                 (joined, rest)
             }
             3 => {

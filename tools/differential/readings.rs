@@ -56,7 +56,10 @@ impl Met<'_> {
             self.refused
         );
         let by_number: Vec<String> = (5..9).map(|n| format!("{n}: {}", self.trees[n])).collect();
-        println!("readings of refused trees, by number {}", by_number.join(", "));
+        println!(
+            "readings of refused trees, by number {}",
+            by_number.join(", ")
+        );
         for (name, v) in [
             ("accepted", ACCEPTED),
             ("dropped", DROPPED),
@@ -82,10 +85,12 @@ fn ask(tree: &Trial, frame: &[u8], met: &mut Met) -> Seen {
 fn extends(tree: &Trial, f: Seen, g: Seen, frame: &[u8], met: &mut Met) {
     met.pairs += 1;
     if g.verdict != f.verdict || g.truth != (f.verdict == ACCEPTED) {
-        met.parts.readings.differs(tree.file.len() + frame.len(), || {
-            let (tree, frame) = (to_hex(&tree.file), to_hex(frame));
-            format!("not the verdict of a frame that it begins with, tree {tree} frame {frame}")
-        });
+        met.parts
+            .readings
+            .differs(tree.file.len() + frame.len(), || {
+                let (tree, frame) = (to_hex(&tree.file), to_hex(frame));
+                format!("not the verdict of a frame that it begins with, tree {tree} frame {frame}")
+            });
     }
 }
 

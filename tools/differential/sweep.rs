@@ -213,7 +213,13 @@ impl Sweep<'_> {
     /// A port with a protocol number, which 6 refuses: its set is empty.
     fn numbered_port(&mut self, link: u8, number: u8) {
         for i in 0..16 {
-            let bytes = [(1, i % 4), (2, 11 + i / 4 % 2), (3, number), (5, 53), (7, 53)];
+            let bytes = [
+                (1, i % 4),
+                (2, 11 + i / 4 % 2),
+                (3, number),
+                (5, 53),
+                (7, 53),
+            ];
             let mut r = with(15 + i / 8, &bytes);
             if r[0] == 15 {
                 r[7] = 0;
@@ -253,7 +259,12 @@ impl Sweep<'_> {
         put(&mut r, 12, &mask.to_be_bytes());
         let link = LINKS[self.turn / 4 % 3];
         let edge = mask.count_ones() as usize;
-        self.address_tree(link, r, 8..12, [edge.saturating_sub(1), edge % 32, self.turn % 32]);
+        self.address_tree(
+            link,
+            r,
+            8..12,
+            [edge.saturating_sub(1), edge % 32, self.turn % 32],
+        );
     }
 
     /// A half of an IPv6 or ether address, the rest as drawn.
@@ -308,9 +319,15 @@ fn every_ethertype(sweep: &mut Sweep) {
 
 fn every_half4(sweep: &mut Sweep) {
     for half in 0..=u16::MAX {
-        LOW_HALVES.iter().for_each(|low| sweep.host4(halves(half, *low)));
-        HIGH_HALVES.iter().for_each(|high| sweep.host4(halves(*high, half)));
-        HALF_MASKS.iter().for_each(|mask| sweep.net4(halves(half, 0), *mask));
+        LOW_HALVES
+            .iter()
+            .for_each(|low| sweep.host4(halves(half, *low)));
+        HIGH_HALVES
+            .iter()
+            .for_each(|high| sweep.host4(halves(*high, half)));
+        HALF_MASKS
+            .iter()
+            .for_each(|mask| sweep.net4(halves(half, 0), *mask));
         for mask in [half as u32, (half as u32) << 16] {
             sweep.net4(halves(half, !half), mask);
             sweep.net4(halves(half, !half), !mask);
@@ -339,7 +356,9 @@ fn every_byte(sweep: &mut Sweep) {
 
 fn every_port(sweep: &mut Sweep) {
     for link in LINKS {
-        PORT_PROTOCOLS.iter().for_each(|protocol| sweep.ports(link, *protocol));
+        PORT_PROTOCOLS
+            .iter()
+            .for_each(|protocol| sweep.ports(link, *protocol));
     }
 }
 
@@ -347,12 +366,28 @@ fn every_port(sweep: &mut Sweep) {
 type Field = (&'static str, &'static str, fn(&mut Sweep));
 
 const FIELDS: [Field; 6] = [
-    ("numbers", "protocol numbers, prefixes, small numbers, 256 each", every_number),
+    (
+        "numbers",
+        "protocol numbers, prefixes, small numbers, 256 each",
+        every_number,
+    ),
     ("ethertypes", "ethertypes, 65,536", every_ethertype),
-    ("addresses", "IPv4 addresses and masks by halves", every_half4),
-    ("segments", "IPv6 and ether addresses by halves", every_half6),
+    (
+        "addresses",
+        "IPv4 addresses and masks by halves",
+        every_half4,
+    ),
+    (
+        "segments",
+        "IPv6 and ether addresses by halves",
+        every_half6,
+    ),
     ("bytes", "every byte of a record, 256 each", every_byte),
-    ("ports", "ports, low and high sides of ranges, 65,536 each", every_port),
+    (
+        "ports",
+        "ports, low and high sides of ranges, 65,536 each",
+        every_port,
+    ),
 ];
 
 /// One field, or all for the name `values`.

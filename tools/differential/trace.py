@@ -3,7 +3,7 @@
 
 tools/differential/trace.py VM OUT
 
-VM is vm.rs as tools/oracle/build leaves it. The copy has the insertions of
+VM is vm.rs as tools/oracle/copies leaves it. The copy has the insertions of
 tools/oracle/runs.py, each behind a text that VM has exactly once, and `told`.
 """
 import pathlib

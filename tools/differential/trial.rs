@@ -75,7 +75,10 @@ impl Trial {
         };
         let wrong = self.run_wrong(frame, number);
         let wrong = wrong.or_else(|| reading_wrong(direct, truth));
-        (seen, wrong.or_else(|| self.odd(frame, seen, number & 0xFFFF)))
+        (
+            seen,
+            wrong.or_else(|| self.odd(frame, seen, number & 0xFFFF)),
+        )
     }
 
     /// Both machines over the same program.
@@ -119,7 +122,12 @@ impl Trial {
             return None;
         }
         let number = exports::run(&program.bytes, padded);
-        let reading = || (Blame::Reading, "with zeros behind it not the direct reading".into());
+        let reading = || {
+            (
+                Blame::Reading,
+                "with zeros behind it not the direct reading".into(),
+            )
+        };
         self.run_wrong(padded, number).or_else(|| Some(reading()))
     }
 

@@ -2,7 +2,7 @@
 // the root of a driver.
 //
 // `codegen`, `ast`, `bpf` and `vm` are the published modules, put beside this
-// file by tools/oracle/build. The modules `error` and `optimizer` below are
+// file by tools/oracle/copies. The modules `error` and `optimizer` below are
 // stand-ins. The tree file and its checks 1 to 4 are no part of the Rust;
 // they are written here from document 01.
 

@@ -78,6 +78,8 @@ fn list_stdin() -> io::Result<()> {
     io::stdout().write_all(listing(&file).as_bytes())
 }
 
+const USAGE: &str = "usage: oracle build | run | listing";
+
 fn main() {
     let words: Vec<String> = std::env::args().skip(1).collect();
     let words: Vec<&str> = words.iter().map(String::as_str).collect();
@@ -85,7 +87,8 @@ fn main() {
         ["build"] => each_line(build_line),
         ["run"] => each_line(run_line),
         ["listing"] => list_stdin(),
-        _ => fail("usage: oracle build | run | listing"),
+        ["--help"] => writeln!(io::stdout(), "{USAGE}"),
+        _ => fail(USAGE),
     };
     if let Err(e) = done {
         fail(&e.to_string());

@@ -35,7 +35,7 @@ ALL = 0xFFFFFFFF
 # ── The copy of vm.rs that counts ────────────────────────────────────────────
 
 # A text that vm.rs has once, and what is put behind it: the fetch, the four
-# packet reads, the return, and the function that tools/oracle/build adds.
+# packet reads, the return, and the function that tools/oracle/copies adds.
 INSERTIONS = [
     ("let insn = *insns.get(pc)?;", " trace::fetched();"),
     ("pkt.get(off..off.checked_add(4)?)", ".or_else(trace::left)"),
