@@ -3,7 +3,7 @@
 
 use std::collections::{BTreeMap, HashSet};
 
-use dabberpearl::{direct, Instruction, Program, Refusal, Verdict};
+use dabberpearl::{direct, Error, Instruction, Program, Refusal, Verdict};
 
 use crate::frames::Maker;
 use crate::libpcap::{self, Compiler, Insn};
@@ -44,7 +44,7 @@ struct Answers {
 }
 
 enum Unjudged {
-    Refused(Refusal),
+    Refused(Error),
     /// libpcap does not take the words.
     Words(String),
 }
@@ -246,8 +246,8 @@ impl<'a> Compiled<'a> {
                 self.met.note(&judge, &mut tree);
                 self.frames(&judge, &tree, drawn);
             }
-            Err(Unjudged::Refused(Refusal::FarJump)) => self.met.far += 1,
-            Err(Unjudged::Refused(refusal)) => self.untaken(&refusal.to_string()),
+            Err(Unjudged::Refused(Error::Refused(Refusal::FarJump))) => self.met.far += 1,
+            Err(Unjudged::Refused(error)) => self.untaken(&error.to_string()),
             Err(Unjudged::Words(what)) => self.untaken(&what),
         }
     }
