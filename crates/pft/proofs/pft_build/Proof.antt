@@ -1,12 +1,12 @@
 use borrow.Author.Needs.{needs}
 use mathlib.Core.Path.{_≡_, refl, sym, ap, _∙_}
-use native.Mathlib.Nat.{add-zero}
+use native.Mathlib.Nat.{add-zero, zero-add}
 use Rattle.pft.specs.Numbers.{buildNumber}
 use Rattle.pft.proofs.pft_build.Statement.{statement}
 use Rattle.pft.proofs.pft_build.Tie as tie
 
 returns : tie.Need-returns
-returns c = (ap buildNumber (sym (c .before .n .given .1) ∙ c .before .before .before .before .before .build .ensures .0), c .before .before .before .before .before .build .ensures .1)
+returns c = (sym (zero-add _) ∙ ap buildNumber (sym (c .before .n .given .1) ∙ c .before .before .before .before .before .build .ensures .0), c .before .before .before .before .before .build .ensures .1)
 
 returns-2 : tie.Need-returns-2
 returns-2 c = (rw (c .refusal-number .ensures .0) (sym (add-zero _) ∙ ap buildNumber (sym (c .before .before .r .given .1) ∙ c .before .before .before .before .before .before .build .ensures .0)), c .before .before .before .before .before .before .build .ensures .1)

@@ -11,7 +11,7 @@ returns c = rw (c .truth .ensures) (sym (add-zero _) ∙ ap directNumber (sym (c
 
 returns-2 : tie.Need-returns-2
 returns-2 c =
-    beyond-of (c .before .before .r .given .0 .0) _ (c .refusal-number .ensures .0) (c .refusal-number .ensures .1 .0)
+    beyond-of (c .before .before .r .given .0 .0) _ (c .refusal-number .ensures .0) (c .refusal-number .ensures .1)
     ∙ sym (zero-add _) ∙ ap directNumber (sym (c .before .before .r .given .1) ∙ c .before .before .before .before .direct-reading .ensures)
 
 pub pft-direct-spec : {M : Type 1} → statement M

@@ -13,7 +13,7 @@ returns c = rw (← c .before .before .before .before .before .run .ensures, c .
 returns-2 : tie.Need-returns-2
 returns-2 c =
     rw (← c .before .before .before .before .run .ensures, c .before .before .result2 .given .1)
-    (omega (arith, beyond-of (c .before .before .result2 .given .0 .0) _ (c .refusal-number .ensures .0) (c .refusal-number .ensures .1 .0)))
+    (omega (arith, beyond-of (c .before .before .result2 .given .0 .0) _ (c .refusal-number .ensures .0) (c .refusal-number .ensures .1)))
 
 pub pft-run-spec : {M : Type 1} → statement M
 pft-run-spec =
