@@ -150,44 +150,16 @@ impl Maker<'_> {
     /// Goes through the program, chooses a side at each test and writes what leads there.
     fn steer(&self, rng: &mut Rng, frame: &mut [u8]) {
         let (mut at, mut x) = (0, 0);
-        let mut field = Field {
-            place: 0,
-            width: 1,
-            mask: !0,
-        };
+        let mut field = Field::new(0, 1);
         loop {
             let i = self.program[at];
             let k = i.k as usize;
             at += 1;
             match i.code {
-                0x20 => {
-                    field = Field {
-                        place: k,
-                        width: 4,
-                        mask: !0,
-                    }
-                }
-                0x28 => {
-                    field = Field {
-                        place: k,
-                        width: 2,
-                        mask: !0,
-                    }
-                }
-                0x30 => {
-                    field = Field {
-                        place: k,
-                        width: 1,
-                        mask: !0,
-                    }
-                }
-                0x48 => {
-                    field = Field {
-                        place: x + k,
-                        width: 2,
-                        mask: !0,
-                    }
-                }
+                0x20 => field = Field::new(k, 4),
+                0x28 => field = Field::new(k, 2),
+                0x30 => field = Field::new(k, 1),
+                0x48 => field = Field::new(x + k, 2),
                 0xb1 => x = 4 * (frame[k] & 15) as usize,
                 0x01 => x = k,
                 0x54 => field.mask &= i.k,
@@ -291,6 +263,14 @@ struct Field {
 }
 
 impl Field {
+    fn new(place: usize, width: usize) -> Field {
+        Field {
+            place,
+            width,
+            mask: !0,
+        }
+    }
+
     fn read(&self, frame: &[u8]) -> u32 {
         let bytes = &frame[self.place..self.place + self.width];
         bytes.iter().fold(0, |sum, &b| sum << 8 | b as u32) & self.mask

@@ -1,64 +1,11 @@
-//! The peers: libpcap's `bpf_validate` and `bpf_filter`, and Linux's socket filter.
+//! Linux's socket filter.
 
-use std::ffi::{c_char, c_int, c_void, CStr};
+use std::ffi::{c_int, c_void};
 use std::io::{Error, ErrorKind};
 use std::os::fd::AsRawFd;
 use std::os::unix::net::UnixDatagram;
 
-use dabberpearl::Instruction;
-
-/// libpcap's `struct bpf_insn` and Linux's `struct sock_filter`.
-#[repr(C)]
-#[derive(Clone, Copy, Default, PartialEq, Eq)]
-pub struct Insn {
-    pub code: u16,
-    pub jt: u8,
-    pub jf: u8,
-    pub k: u32,
-}
-
-impl From<Instruction> for Insn {
-    fn from(i: Instruction) -> Insn {
-        Insn {
-            code: i.code,
-            jt: i.jt,
-            jf: i.jf,
-            k: i.k,
-        }
-    }
-}
-
-// ── libpcap ──────────────────────────────────────────────────────────────────
-
-#[link(name = "pcap")]
-extern "C" {
-    fn bpf_validate(program: *const Insn, count: c_int) -> c_int;
-    fn bpf_filter(program: *const Insn, frame: *const u8, on_the_wire: u32, at_hand: u32) -> u32;
-    fn pcap_lib_version() -> *const c_char;
-}
-
-pub fn libpcap_version() -> String {
-    // SAFETY: it answers a string of its own that ends in 0.
-    unsafe { CStr::from_ptr(pcap_lib_version()) }
-        .to_string_lossy()
-        .into_owned()
-}
-
-/// Whether `bpf_validate` takes a program.
-pub fn validates(program: &[Insn]) -> bool {
-    // SAFETY: the pointer and the count are those of a slice.
-    unsafe { bpf_validate(program.as_ptr(), program.len() as c_int) != 0 }
-}
-
-/// What `bpf_filter` returns for a program that `bpf_validate` takes.
-pub fn filter(program: &[Insn], frame: &[u8]) -> u32 {
-    let length = frame.len() as u32;
-    // SAFETY: the program was validated, so its jumps stay inside and it returns; the frame's
-    // pointer and length are those of a slice.
-    unsafe { bpf_filter(program.as_ptr(), frame.as_ptr(), length, length) }
-}
-
-// ── Linux ────────────────────────────────────────────────────────────────────
+use crate::libpcap::Insn;
 
 const SOL_SOCKET: c_int = 1;
 /// To get, it is SO_GET_FILTER.

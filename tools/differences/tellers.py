@@ -1,0 +1,135 @@
+"""Those whose answers stand in the tables: the Rust, libpcap, Linux."""
+import ctypes
+import errno
+import os
+import pathlib
+import select
+import shutil
+import signal
+import subprocess
+
+from sending import ROOT, fail, local
+
+NETMASK_UNKNOWN = 0xffffffff
+SNAPSHOT = 262144
+# What a link byte is to libpcap, unless the row names another.
+LINKS = {1: "EN10MB", 2: "RAW", 3: "LINUX_SLL"}
+# A program that runs longer loops.
+SECONDS = 2
+
+
+def shell(words, **options):
+    done = subprocess.run(words, capture_output=True, text=True, **options)
+    if done.returncode != 0:
+        fail(f"{words[0]}: {(done.stdout + done.stderr).strip()}")
+    return done.stdout.strip()
+
+
+# ---- the Rust
+
+class Rust:
+    """The unchanged Rust: its generator by the oracle, its machine by verdict.rs."""
+
+    def __init__(self, source, folder):
+        oracle = folder / "oracle"
+        shell([str(ROOT / "tools" / "oracle" / "build"), source, str(oracle)])
+        copies = pathlib.Path(f"{oracle}.d")
+        shutil.copy(ROOT / "tools" / "differences" / "verdict.rs", copies)
+        machine = str(folder / "verdict")
+        options = ["-O", "--edition", "2021", "-A", "dead_code", "-o", machine]
+        shell(["rustc", *options, str(copies / "verdict.rs")])
+        self.builds = self.start([str(oracle), "build"])
+        self.runs = self.start([machine])
+
+    @staticmethod
+    def start(words):
+        return subprocess.Popen(words, stdin=subprocess.PIPE, stdout=subprocess.PIPE, text=True)
+
+    @staticmethod
+    def ask(process, line):
+        process.stdin.write(line + "\n")
+        process.stdin.flush()
+        return process.stdout.readline().strip() or fail("the Rust gave no answer")
+
+    def build(self, tree):
+        """The program in hex, or `refused N`."""
+        answer = self.ask(self.builds, tree.hex())
+        return answer if answer.startswith("refused") else answer.split()[1]
+
+    def run(self, program, frame):
+        return self.ask(self.runs, f"{program.hex() or '-'} {frame.hex() or '-'}")
+
+
+# ---- libpcap
+
+class Code(ctypes.Structure):
+    _fields_ = [("count", ctypes.c_uint), ("first", ctypes.c_void_p)]
+
+
+def library():
+    shell([str(ROOT / "tools" / "libpcap-dev")])
+    c = ctypes.CDLL(shell(["cc", "-print-file-name=libpcap.so"]))
+    c.pcap_open_dead.restype = ctypes.c_void_p
+    c.pcap_close.argtypes = [ctypes.c_void_p]
+    c.pcap_geterr.restype = c.pcap_lib_version.restype = ctypes.c_char_p
+    c.pcap_geterr.argtypes = [ctypes.c_void_p]
+    c.pcap_compile.argtypes = [ctypes.c_void_p, ctypes.POINTER(Code), ctypes.c_char_p, ctypes.c_int, ctypes.c_uint]
+    c.pcap_freecode.argtypes = [ctypes.POINTER(Code)]
+    c.bpf_filter.restype = ctypes.c_uint
+    c.bpf_filter.argtypes = [ctypes.c_char_p, ctypes.c_char_p, ctypes.c_uint, ctypes.c_uint]
+    return c
+
+
+def apart(function):
+    """What a function answers in a process of its own, or the signal that ends it, or `loops`."""
+    reader, writer = os.pipe()
+    child = os.fork()
+    if child == 0:
+        os.write(writer, function().encode())
+        os._exit(0)
+    os.close(writer)
+    ready, _, _ = select.select([reader], [], [], SECONDS)
+    if not ready:
+        os.kill(child, signal.SIGKILL)
+    answer = os.read(reader, 100).decode() if ready else "loops"
+    os.close(reader)
+    _, status = os.waitpid(child, 0)
+    return answer or signal.Signals(os.WTERMSIG(status)).name
+
+
+class Pcap:
+    def __init__(self):
+        self.c = library()
+        self.version = self.c.pcap_lib_version().decode()
+
+    def compile(self, words, link, optimize, netmask=NETMASK_UNKNOWN):
+        """The program for words on a named link; `error`, or `never` where none is accepted."""
+        pcap = self.c.pcap_open_dead(self.c.pcap_datalink_name_to_val(link.encode()), SNAPSHOT)
+        code = Code()
+        try:
+            if self.c.pcap_compile(pcap, ctypes.byref(code), words.encode(), optimize, netmask) != 0:
+                said = self.c.pcap_geterr(pcap).decode()
+                return "never" if said == "expression rejects all packets" else "error"
+            program = ctypes.string_at(code.first, 8 * code.count)
+            self.c.pcap_freecode(ctypes.byref(code))
+            return program
+        finally:
+            self.c.pcap_close(pcap)
+
+    def filter(self, program, frame):
+        """`accepted N` or `dropped`; no program at all is a null pointer."""
+        def answer():
+            kept = self.c.bpf_filter(program or None, frame, len(frame), len(frame))
+            return f"accepted {kept}" if kept else "dropped"
+        return apart(answer)
+
+
+# ---- Linux
+
+def linux(program, frame, send=local):
+    """`kept N`, `dropped`, or the name of the error with which the program is turned down."""
+    try:
+        received = send(program, frame)
+    except OSError as error:
+        return errno.errorcode[error.errno]
+    return "dropped" if received is None else f"kept {len(received)}"

@@ -1,0 +1,110 @@
+//! Frames that were not made for a tree: the samples, and captures.
+
+use std::fs;
+use std::path::{Path, PathBuf};
+
+use crate::libpcap;
+use crate::values::network;
+
+const ETHERNET: u8 = 1;
+const RAWIP: u8 = 2;
+const SLL: u8 = 3;
+const FOLDERS: [(&str, u8); 3] = [("ethernet", 1), ("rawip", 2), ("linuxsll", 3)];
+/// A cooked header before its protocol: to us, Ethernet, an address of six bytes.
+const COOKED: [u8; 14] = [0, 0, 0, 1, 0, 6, 2, 0, 0, 0, 0, 1, 0, 0];
+/// Of so many frames that are not IPv4 one is taken as RawIp.
+const OTHERS: usize = 8;
+/// Of captures in a folder.
+const ENDINGS: [&str; 3] = ["pcap", "pcapng", "cap"];
+/// The longest frame that is run.
+const LONGEST: usize = 65_535;
+
+/// By link byte.
+#[derive(Default)]
+pub struct Pool {
+    frames: [Vec<Vec<u8>>; 4],
+    captures: usize,
+    /// Captures with a link that is not ours.
+    other_links: usize,
+    /// Files of a folder that libpcap cannot read.
+    unreadable: usize,
+}
+
+impl Pool {
+    pub fn of(&self, link: u8) -> &[Vec<u8>] {
+        &self.frames[link as usize]
+    }
+
+    fn push(&mut self, link: u8, frame: Vec<u8>) {
+        if frame.len() <= LONGEST {
+            self.frames[link as usize].push(frame);
+        }
+    }
+
+    /// A frame, and those of Ethernet also without their header and with a cooked one. RawIp gets
+    /// what the ethertype calls IPv4, and some of the others.
+    fn add(&mut self, link: u8, frame: Vec<u8>) {
+        if link == ETHERNET && frame.len() >= network(ETHERNET) {
+            let (kind, packet) = (&frame[12..14], &frame[14..]);
+            if kind == [8, 0] || self.of(ETHERNET).len() % OTHERS == 0 {
+                self.push(RAWIP, packet.to_vec());
+            }
+            self.push(SLL, [&COOKED, kind, packet].concat());
+        }
+        self.push(link, frame);
+    }
+
+    pub fn add_samples(&mut self, samples: &Path) -> Result<(), String> {
+        for (name, link) in FOLDERS {
+            for path in files(&samples.join(name), &["frame"])? {
+                let frame = fs::read(&path).map_err(|e| format!("{}: {e}", path.display()))?;
+                self.add(link, frame);
+            }
+        }
+        Ok(())
+    }
+
+    /// A capture, or the captures of a folder.
+    pub fn add_capture(&mut self, path: &Path) -> Result<(), String> {
+        if path.is_dir() {
+            for file in files(path, &ENDINGS)? {
+                self.unreadable += self.add_capture(&file).is_err() as usize;
+            }
+            return Ok(());
+        }
+        let read = libpcap::read_capture(path);
+        let (link, frames) = read.map_err(|e| format!("{}: {e}", path.display()))?;
+        match link {
+            None => self.other_links += 1,
+            Some(link) => {
+                self.captures += 1;
+                frames.into_iter().for_each(|f| self.add(link, f));
+            }
+        }
+        Ok(())
+    }
+
+    pub fn print(&self) {
+        let [_, ethernet, raw, sll] = [0, 1, 2, 3].map(|link| self.frames[link].len());
+        println!("frames at hand: {ethernet} of Ethernet, {raw} of RawIp, {sll} of LinuxSll");
+        println!(
+            "  from the samples and {} captures; {} of other links and {} that libpcap cannot read left out",
+            self.captures, self.other_links, self.unreadable
+        );
+    }
+}
+
+/// A folder's files with one of these endings, by name.
+fn files(folder: &Path, endings: &[&str]) -> Result<Vec<PathBuf>, String> {
+    let told = |e: std::io::Error| format!("{}: {e}", folder.display());
+    let mut paths = Vec::new();
+    for entry in fs::read_dir(folder).map_err(told)? {
+        let path = entry.map_err(told)?.path();
+        let ending = path.extension().unwrap_or_default().to_string_lossy();
+        if endings.contains(&&*ending) {
+            paths.push(path);
+        }
+    }
+    paths.sort();
+    Ok(paths)
+}
