@@ -17,9 +17,10 @@ version() {
     exit 0
 }
 
-# Says how a command is used, which is the start of its help, and ends.
-usage() {
-    sed '/^$/q' "$here/help/$1.txt" >&2
+# Says what is wrong, where that is known, and how a command is used, which is the start of its help; and ends.
+usage() { # HELP [REASON]
+    test -z "${2:-}" || echo "${0##*/}: $2" >&2
+    sed '/^$/,$d' "$here/help/$1.txt" >&2
     exit 2
 }
 
@@ -72,9 +73,9 @@ proved_at() {
 }
 
 # Ends where the proved program of a crate is not made, or a source is newer than its proof.
-need() {
+need() { # CRATE COMMAND
     test -x "$root/target/bin/$1" || fail "it is not made yet. In $root: \`rt check $1\` proves what it\
- stands on and makes it, in minutes; \`bin/pft --unproved\` makes one without proofs, in seconds"
+ stands on and makes it, in minutes; \`bin/pft --unproved $2\` does without proofs, in seconds"
     changed=$(newer "$(proved_at "$1")" "$1" src specs proofs)
     test -z "$changed" || fail "$changed is newer than target/bin/$1. In $root: \`rt check $1\` makes it anew"
 }

@@ -54,10 +54,10 @@ def shell(line, *words):
     return done.stdout, done.stderr, done.returncode
 
 
-def usage(name):
+def usage(name, reason=""):
     """What wrong usage prints."""
     text = (ROOT / "bin" / "help" / f"{name}.txt").read_text()
-    return "", text[: text.index("\n\n") + 2], 2
+    return "", reason + text[: text.index("\n\n") + 1], 2
 
 
 # ── Streams ──────────────────────────────────────────────────────────────────
@@ -178,14 +178,17 @@ def try_unreadable(tally, room):
 
 def try_usage(tally):
     tries = {
-        "pft": ["", "count", "-x", "../pft"],
+        "pft": [""],
         "pft/list": ["list -x", "list a b", "list a -d"],
         "pft/run": ["run", "run tree", "run -x frame"],
     }
     for name, lines in tries.items():
         for words in lines:
             tally.expect(f"pft {words}", run(*words.split()), usage(name))
-    tally.expect("pft-list tree", run("tree", name="bin/pft-list"), usage("pft-list"))
+    for word in ("count", "-x", "../pft"):
+        tally.expect(f"pft {word}", run(word), usage("pft", f"pft: there is no command {word}\n"))
+    wanted = usage("pft-list", "pft-list: it takes no words\n")
+    tally.expect("pft-list tree", run("tree", name="bin/pft-list"), wanted)
 
 
 def try_link(tally, room):
