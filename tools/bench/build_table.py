@@ -7,7 +7,8 @@ import sys
 from statistics import median
 
 sys.dont_write_bytecode = True
-from table import mean, spread
+from table import mean, placements_of, spread
+from words import run
 
 HEAD = (
     f"{'row':<10} {'records':>7} {'insns':>5} {'exact':>8} {'32,768':>8} {'compile':>8} {'file':>8}   "
@@ -38,10 +39,11 @@ def table(title, placements, at):
 
 
 def main():
-    placements = [read(path) for path in sys.argv[1:]]
+    placements = placements_of(__doc__, read)
     print(f"ns per build; {len(placements)} placements of the code: their median, and in brackets their range")
     table("\nmedian of the rounds", placements, 0)
     table("\nminimum of the rounds", placements, 4)
 
 
-main()
+if __name__ == "__main__":
+    run(main)

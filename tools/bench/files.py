@@ -1,10 +1,14 @@
 #!/usr/bin/env python3
-"""The tree files whose builds are timed: NAME and the file in hex, a row to a line."""
+"""The tree files whose builds are timed: NAME and the file in hex, a row to a line.
+
+tools/bench/files.py
+"""
 import sys
 
 sys.dont_write_bytecode = True
 from programs import MULTICAST, TREES, UDP, WEB, address6, host4, joined, port, protocol
 from trees import AND, EITHER, ETHERNET, NOT, OR, SOURCE, header, record
+from words import Words, run
 
 
 def net6(last, prefix=128):
@@ -45,8 +49,10 @@ FILES = {
 
 
 def main():
+    Words(__doc__).parse_args()
     for name, tree in FILES.items():
         print(name, (header(ETHERNET, len(tree)) + b"".join(tree)).hex())
 
 
-main()
+if __name__ == "__main__":
+    run(main)

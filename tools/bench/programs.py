@@ -3,7 +3,7 @@
 
 tools/bench/programs.py ORACLE
 
-A line is NAME, `emitted` or `other`, the program in hex, then its frames in
+ORACLE is what tools/oracle/build makes. A line is NAME, `emitted` or `other`, the program in hex, then its frames in
 hex. The emitted programs are the oracle's answers for the trees below; the
 others have codes that the generator never emits. The same lines on every
 machine.
@@ -16,6 +16,7 @@ sys.dont_write_bytecode = True
 sys.path.insert(0, str(pathlib.Path(__file__).resolve().parent.parent / "oracle"))
 from trees import AND, BOTH, DESTINATION, EITHER, ETHERNET, NOT, OR, SOURCE
 from trees import Rng, half, header, record
+from words import Words, run, stop
 
 FRAMES = 64
 IP, TCP, UDP = 1, 5, 6
@@ -144,14 +145,17 @@ OTHERS = {
 
 def compiled(oracle, tree):
     file = header(ETHERNET, len(tree)) + b"".join(tree)
-    done = subprocess.run([oracle, "build"], input=file.hex().encode(), capture_output=True, check=True)
-    first, program = done.stdout.decode().split()
-    assert first != "refused"
-    return program
+    done = subprocess.run([oracle, "build"], input=file.hex().encode(), capture_output=True)
+    answer = done.stdout.decode().split()
+    if done.returncode or len(answer) != 2 or answer[0] == "refused":
+        stop(f"{oracle} built no program: {' '.join(answer)}{done.stderr.decode().strip()}")
+    return answer[1]
 
 
 def main():
-    oracle, rng = sys.argv[1], Rng(5)
+    parser = Words(__doc__)
+    parser.add_argument("oracle", metavar="ORACLE")
+    oracle, rng = parser.parse_args().oracle, Rng(5)
     frames = [frame(rng).hex() for _ in range(FRAMES)]
     rows = [(name, "emitted", compiled(oracle, tree)) for name, tree in TREES.items()]
     rows += [(name, "other", program.hex()) for name, program in OTHERS.items()]
@@ -160,4 +164,4 @@ def main():
 
 
 if __name__ == "__main__":
-    main()
+    run(main)

@@ -4,8 +4,13 @@
 tools/bench/table.py FILE...     (one file of the driver's lines for each placement)
 """
 import math
+import pathlib
 import sys
 from statistics import median
+
+sys.dont_write_bytecode = True
+sys.path.insert(0, str(pathlib.Path(__file__).resolve().parent.parent / "oracle"))
+from words import Words, run, stop
 
 HEAD = f"{'row':<12} {'steps':>6} {'pft':>8} {'vm.rs':>8} {'pcap':>8}   {'pft/vm.rs':<18} pft/bpf_filter"
 
@@ -39,12 +44,22 @@ def table(title, placements, at):
         print(f"geometric mean, {words:<38} {vm:<18} {pcap:<18}".rstrip())
 
 
+def placements_of(text, read):
+    """What the files named by the command's words hold; the text is its help."""
+    parser = Words(text)
+    parser.add_argument("files", metavar="FILE", nargs="+")
+    try:
+        return [read(path) for path in parser.parse_args().files]
+    except ValueError as problem:
+        stop(f"not the driver's lines: {problem}")
+
+
 def main():
-    placements = [read(path) for path in sys.argv[1:]]
+    placements = placements_of(__doc__, read)
     print(f"ns per run; {len(placements)} placements of the code: their median, and in brackets their range")
     table("\nmedian of the rounds", placements, 0)
     table("\nminimum of the rounds", placements, 3)
 
 
 if __name__ == "__main__":
-    main()
+    run(main)

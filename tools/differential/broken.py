@@ -1,6 +1,7 @@
 """Broken copies of the Rust, and of what stands beside it: what is wrong, the
 file, a text that it has once, and the text in its place; for a single value also
 the stage that has to find it."""
+import argparse
 
 # Document 01: "Wrong turns seen in such code".
 WRONG_TURNS = [
@@ -806,3 +807,16 @@ GROUPS = [
     ("single values", VALUES),
     ("readings", READINGS),
 ]
+
+
+def named(word):
+    """The groups, each with those of its variants whose name has the word."""
+    kept = [(group, [v for v in variants if word in v[0]]) for group, variants in GROUPS]
+    return [(group, variants) for group, variants in kept if variants]
+
+
+def part_of_a_name(word):
+    """The word, for a command: it has to choose something."""
+    if not named(word):
+        raise argparse.ArgumentTypeError(f"no variant's name has the word {word}")
+    return word

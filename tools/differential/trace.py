@@ -80,8 +80,8 @@ mod trace {
 
 def main():
     parser = Words(__doc__)
-    parser.add_argument("vm", type=pathlib.Path)
-    parser.add_argument("out", type=pathlib.Path)
+    parser.add_argument("vm", metavar="VM", type=pathlib.Path)
+    parser.add_argument("out", metavar="OUT", type=pathlib.Path)
     args = parser.parse_args()
     text = args.vm.read_text()
     # the last insertion is behind the oracle's own function

@@ -124,7 +124,7 @@ def lines(oracle):
 
 def main():
     parser = Words(__doc__)
-    parser.add_argument("oracle", nargs="?", default=str(DEFAULT))
+    parser.add_argument("oracle", metavar="ORACLE", nargs="?", default=str(DEFAULT))
     oracle = parser.parse_args().oracle
     wrong = 0
     for words, good in lines(oracle):

@@ -11,7 +11,7 @@ jumps of about 255. --small keeps to nine records.
 import sys
 
 sys.dont_write_bytecode = True
-from words import Words, number, run
+from words import Words, number, positive, run
 
 AND, OR, NOT = 1, 2, 3
 ETHERNET, RAWIP, SLL = 1, 2, 3
@@ -486,14 +486,12 @@ def tree_file(rng, most):
 
 def main():
     parser = Words(__doc__)
-    parser.add_argument("seed", type=number)
-    parser.add_argument("count", type=number)
-    parser.add_argument("--max-records", type=number, default=MOST)
+    parser.add_argument("seed", metavar="SEED", type=number)
+    parser.add_argument("count", metavar="COUNT", type=number)
+    parser.add_argument("--max-records", metavar="N", type=positive, default=MOST)
     parser.add_argument("--small", action="store_true")
     args = parser.parse_args()
     most = min(args.max_records, SMALL if args.small else MOST)
-    if most < 1:
-        parser.error("--max-records below 1")
     rng = Rng(args.seed)
     for _ in range(args.count):
         sys.stdout.write(tree_file(rng, most).hex() + "\n")

@@ -8,6 +8,7 @@ import sys
 
 MOST = 2**64 - 1
 RUST = ("codegen.rs", "ast.rs", "bpf.rs", "vm.rs")
+SRC_IS = "SRC is the folder that holds pktbaffle/src"
 
 
 def stop(message):
@@ -29,17 +30,21 @@ class Words(argparse.ArgumentParser):
         self.exit(2, f"{self.prog}: {message} (see --help)\n")
 
 
-def number(text):
-    if text.isascii() and text.isdigit() and int(text) <= MOST:
+def number(text, least=0):
+    if text.isascii() and text.isdigit() and least <= int(text) <= MOST:
         return int(text)
-    raise argparse.ArgumentTypeError(f"not a number from 0 to {MOST}: {text}")
+    raise argparse.ArgumentTypeError(f"not a number from {least} to {MOST}: {text}")
+
+
+def positive(text):
+    return number(text, 1)
 
 
 def source(text):
     """The folder that holds pktbaffle/src."""
     for name in RUST:
         if not (pathlib.Path(text) / "pktbaffle" / "src" / name).is_file():
-            raise argparse.ArgumentTypeError(f"no {text}/pktbaffle/src/{name}")
+            raise argparse.ArgumentTypeError(f"no {text}/pktbaffle/src/{name}: {SRC_IS}")
     return pathlib.Path(text).resolve()
 
 
@@ -66,9 +71,9 @@ def run(main):
 def stored(text, crate, make, show):
     """A command that makes stored cases by SEED [DIR] or prints them by --show [DIR]."""
     parser = Words(text)
-    parser.add_argument("seed", nargs="?", type=number)
-    parser.add_argument("directory", nargs="?", type=pathlib.Path, default=crate)
-    parser.add_argument("--show", nargs="?", type=pathlib.Path, const=crate)
+    parser.add_argument("seed", metavar="SEED", nargs="?", type=number)
+    parser.add_argument("directory", metavar="DIR", nargs="?", type=pathlib.Path, default=crate)
+    parser.add_argument("--show", metavar="DIR", nargs="?", type=pathlib.Path, const=crate)
     args = parser.parse_args()
     if (args.seed is None) == (args.show is None):
         parser.error("wants SEED or --show")

@@ -28,9 +28,8 @@ class Library:
 
     def __init__(self, folder):
         folder.mkdir(parents=True, exist_ok=True)
-        made = subprocess.run(["rt", "staticlib", "pft"], cwd=ROOT, capture_output=True, text=True)
-        if made.returncode != 0:
-            fail("no libpft.a\n" + made.stdout + made.stderr)
+        if subprocess.run([ROOT / "tools" / "library"]).returncode != 0:
+            fail("no libpft.a")
         shared = folder / "libpft.so"
         archive = ROOT / "target" / "staticlib" / "libpft.a"
         words = ["-Wl,--whole-archive", archive, "-Wl,--no-whole-archive"]
