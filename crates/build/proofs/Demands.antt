@@ -44,7 +44,7 @@ use Rattle.build.specs.Demands.{Calls, Kept, Frame, Begins, Demand1, Dem
 
 -- ---- the definitions' own answers, of which the demands are proved first
 
-abbrev defined : List ℕ → Calls
+abbrev pub defined : List ℕ → Calls
 defined T = record { answer = λ lent. build T lent .answer; buffer = λ lent. build T lent .buffer; ran = run; read = direct T }
 
 abbrev Answers : List ℕ → ℕ → ℕ → Type 0
@@ -318,6 +318,10 @@ module _ (T : List ℕ) (z : AreBytes T) where
           reaches = (q .met .filter .link, linked, λ h r. long F (q .met .filter .link) linked h (gets F (f .1) Short .0 r));
           there = λ link e h. decides F F f f (all-of-it F) (long F link e h);
         }
+
+-- the promises can be kept: the definitions' own answers keep them
+pub kept : (T : List ℕ) → Kept T (defined T)
+kept T = record { answers = λ lent. refl; leaves = λ lent. refl; runs = λ P F. refl; reads = λ F. refl }
 
 -- demands 1 and 3, of every tree file and of all calls that keep their promises
 pub demands : (T : List ℕ) → AreBytes T → (c : Calls) → Kept T c → Demands T c
