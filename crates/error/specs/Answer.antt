@@ -1,7 +1,7 @@
--- Document 01's table of refusals, and answers that may be one of them.
+-- Document 01's table of refusals, those that the requests add, and answers that may be one of them.
 use Prim.Native.Nat.{ℕ}
 use Rattle.error.specs.declared.Refusal.{Refusal}
-use Rattle.error.specs.declared.Refusal.the-variants.{StrangeFile, WrongCount, BadRecord, NotOneTree, KindOnRaw, PortProtocol, EtherOnRaw, FarJump, ShortBuffer, LongFrame, OddProgram}
+use Rattle.error.specs.declared.Refusal.the-variants.{StrangeFile, WrongCount, BadRecord, NotOneTree, KindOnRaw, PortProtocol, EtherOnRaw, FarJump, ShortBuffer, LongFrame, OddProgram, NoCapture, OtherLink, CutFrame}
 
 -- "| Number | Word | Given when |"
 abbrev pub numberOf : Refusal → ℕ
@@ -16,6 +16,10 @@ numberOf FarJump = 8
 numberOf ShortBuffer = 9
 numberOf LongFrame = 10
 numberOf OddProgram = 11
+-- T-01: 12 "no capture", 13 "other link", 14 "cut frame"
+numberOf NoCapture = 12
+numberOf OtherLink = 13
+numberOf CutFrame = 14
 
 -- a value, or a refusal
 pub data Out (A : Type 0) : Type 0 where

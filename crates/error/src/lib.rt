@@ -1,4 +1,4 @@
-// The refusals, in the order of document 01's table, and their numbers.
+// The refusals, in the order of document 01's table and of the requests after it, and their numbers.
 ghost use mathlib.Core.Path.{_≡_};
 ghost use Prim.Native.Nat.{_≤_, _<_};
 ghost use Rattle.error.specs.Answer.{numberOf};
@@ -15,6 +15,9 @@ pub enum Refusal {
     ShortBuffer,
     LongFrame,
     OddProgram,
+    NoCapture,
+    OtherLink,
+    CutFrame,
 }
 
 // The number, which is not 0 and takes a byte.
@@ -33,5 +36,8 @@ pub fn refusal_number(refusal: Refusal) -> u32
         Refusal::ShortBuffer => 9,
         Refusal::LongFrame => 10,
         Refusal::OddProgram => 11,
+        Refusal::NoCapture => 12,
+        Refusal::OtherLink => 13,
+        Refusal::CutFrame => 14,
     }
 }

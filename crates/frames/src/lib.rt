@@ -43,7 +43,7 @@ fn text(fd: i32, s: &[u8]) -> bool {
     io::write_all(fd, s)
 }
 
-// The words of document 01's table.
+// The words of document 01's table and of the requests.
 fn put_refusal(fd: i32, r: Refusal) -> bool {
     match r {
         Refusal::StrangeFile => text(fd, b"strange file"),
@@ -57,6 +57,9 @@ fn put_refusal(fd: i32, r: Refusal) -> bool {
         Refusal::ShortBuffer => text(fd, b"short buffer"),
         Refusal::LongFrame => text(fd, b"long frame"),
         Refusal::OddProgram => text(fd, b"odd program"),
+        Refusal::NoCapture => text(fd, b"no capture"),
+        Refusal::OtherLink => text(fd, b"other link"),
+        Refusal::CutFrame => text(fd, b"cut frame"),
     }
 }
 

@@ -1,4 +1,4 @@
--- Answers as numbers: a refusal beyond 256, and no more steps than 16 bits hold.
+-- Answers as numbers: a refusal beyond 256, no more steps than 16 bits hold, a frame's length.
 use Prim.Native.Nat.{ℕ, _+_, _*_, _/_, _≤_}
 use mathlib.Core.Bool.{Bool, true, false, cond}
 use mathlib.Core.Path.{_≡_, refl}
@@ -8,7 +8,7 @@ use lib.ListN.{length}
 use borrow.Author.Tests.{ne-eqb}
 use Rattle.error.specs.declared.Refusal.{Refusal}
 use Rattle.error.specs.declared.Refusal.the-variants.{LongFrame, OddProgram}
-use Rattle.error.specs.Answer.{numberOf}
+use Rattle.error.specs.Answer.{Out, refused, done, numberOf}
 use Rattle.bpf.specs.Program.{insnsAt}
 use Rattle.bpf.specs.Bytes.{longFrame}
 use Rattle.bpf.proofs.Programs.{length-insns}
@@ -16,6 +16,9 @@ use Rattle.vm.specs.declared.RunResult.the-variants.{Ran, Refused}
 use Rattle.vm.specs.Machine.{inner, oddProgram, run, stepsOf}
 use Rattle.vm.proofs.Steps.{inner-steps}
 use Rattle.machine.proofs.Entry.{odd-long}
+use Rattle.capture.specs.declared.FrameResult.{FrameResult}
+use Rattle.capture.specs.declared.FrameResult.the-variants as F
+use Rattle.capture.specs.Promises.{framedOf}
 use Rattle.pft.specs.Numbers.{beyond}
 
 -- the number of a refusal as code makes it
@@ -32,3 +35,12 @@ run-steps p f = go (oddProgram p) (longFrame f) refl
     go true long h = omega arith
     go false true h = omega arith
     go false false h = omega (arith, odd-long (length p) h, inner-steps (insnsAt (length p / 8) 0 p) f, length-insns (length p / 8) 0 p)
+
+-- a frame's length, or its refusal, as the code has it
+pub framed-size : (x : Out ℕ) {n : ℕ} {r : FrameResult} → r ≡ framedOf x → r ≡ F.Size n → x ≡ done n
+framed-size (refused q) e h = let z : _≡_ {A = ℕ} 0 1 = cc in absurd (omega arith)
+framed-size (done m) e h = cc
+
+pub framed-refused : (x : Out ℕ) {q : Refusal} {r : FrameResult} → r ≡ framedOf x → r ≡ F.Refused q → x ≡ refused q
+framed-refused (refused p) e h = cc
+framed-refused (done m) e h = let z : _≡_ {A = ℕ} 0 1 = cc in absurd (omega arith)

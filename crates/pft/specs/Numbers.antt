@@ -1,17 +1,20 @@
 -- The answers of the exported functions as numbers.
-use Prim.Native.Nat.{ℕ, _+_, _*_}
+use Prim.Native.Nat.{ℕ, _+_, _*_, _^_}
 use mathlib.Core.Bool.{cond}
 use lib.Dec.{eqb}
+use Rattle.error.specs.Answer.{Out, refused, done, numberOf}
 use Rattle.vm.specs.declared.RunResult.{RunResult}
 use Rattle.vm.specs.Machine as Run
 use Rattle.direct.specs.declared.DirectResult.{DirectResult}
 use Rattle.direct.specs.Direct as Direct
 use Rattle.build.specs.declared.BuildResult.{BuildResult}
 use Rattle.build.specs.Build as Build
+use Rattle.capture.specs.declared.CountResult.{CountResult}
+use Rattle.capture.specs.Counting as Counting
 
 -- the number of this interface: a landing that adds to it raises it by one
 abbrev pub version : ℕ
-version = 1
+version = 2
 
 -- a refusal as "256 + refusal number"; 0 where there is none
 abbrev pub beyond : ℕ → ℕ
@@ -28,3 +31,12 @@ buildNumber r = Build.refusalOf r * 65536 + Build.countOf r
 -- "1 or 0; 256 + number where 1 to 4 or then 10 refuses"
 abbrev pub directNumber : DirectResult → ℕ
 directNumber r = Direct.truthOf r + beyond (Direct.refusalOf r)
+
+-- T-01, of a count: refusal × 2^32 + accepted frames
+abbrev pub countNumber : CountResult → ℕ
+countNumber r = Counting.refusalOf r * 2 ^ 32 + Counting.framesIn r .kept
+
+-- of a frame in a capture: refusal × 2^32 + captured length
+abbrev pub frameNumber : Out ℕ → ℕ
+frameNumber (refused r) = numberOf r * 2 ^ 32
+frameNumber (done n) = n

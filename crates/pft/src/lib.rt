@@ -1,18 +1,25 @@
 // The functions that Rust and C call, each answering one number.
 use build::BuildResult;
+use capture::CountResult;
+use capture::FrameResult;
 use direct::DirectResult;
+use error::Refusal;
 use error::refusal_number;
 use vm::RunResult;
 use vm::verdict_number;
 ghost use mathlib.Core.Path.{_≡_};
 ghost use mathlib.Core.Bool.{cond};
+ghost use Prim.Native.Nat.{_+_, _*_, _^_, _≤_};
 ghost use lib.ListN.{length};
+ghost use Rattle.error.specs.Answer.{numberOf};
 ghost use Rattle.vm.specs.Machine as M;
 ghost use Rattle.direct.specs.Direct.{direct};
 ghost use Rattle.build.specs.Build.{build};
-ghost use Rattle.pft.specs.Numbers.{version, runNumber, buildNumber, directNumber};
+ghost use Rattle.capture.specs.Capture.{frameAt};
+ghost use Rattle.count.specs.Count.{count};
+ghost use Rattle.pft.specs.Numbers.{version, runNumber, buildNumber, directNumber, countNumber, frameNumber};
 
-const VERSION: u32 = 1;
+const VERSION: u32 = 2;
 
 fn truth(b: bool) -> u32
     ensures { λ r. ⌜ r ≡ cond b 1 0 ⌝ }
@@ -62,5 +69,35 @@ pub extern "C" fn pft_run(program: &[u8], frame: &[u8]) -> u32
             verdict_number(verdict) * 65536 + outcome.steps
         }
         RunResult::Refused(refusal) => (256 + refusal_number(refusal)) * 65536,
+    }
+}
+
+// A refusal beside a count of frames or bytes.
+fn beside(refusal: Refusal, n: u64) -> u64
+    requires { ⌜ n + 2 ^ 40 ≤ 2 ^ 64 ⌝ }
+    ensures { λ r. ⌜ r ≡ numberOf refusal * 2 ^ 32 + n ⌝ }
+{
+    refusal_number(refusal) as u64 * 4294967296 + n
+}
+
+// The count of a capture's frames that a tree file's program accepts, as one number.
+#[no_mangle]
+pub extern "C" fn pft_count(tree: &[u8], program: &mut [u8], capture: &[u8]) -> u64
+    ensures { λ r. ⌜ (r ≡ countNumber (count (now (tree .entry)) (length (now (program .entry))) (now (capture .entry)) .answer)) × (now (program .exit) ≡ count (now (tree .entry)) (length (now (program .entry))) (now (capture .entry)) .buffer) ⌝ }
+{
+    match count::count(tree, program, capture) {
+        CountResult::Count(tally) => tally.kept,
+        CountResult::Refused(r, tally) => beside(r, tally.kept),
+    }
+}
+
+// The captured length of the frame whose header stands at a place of a capture, as one number.
+#[no_mangle]
+pub extern "C" fn pft_frame(capture: &[u8], at: usize) -> u64
+    ensures { λ r. ⌜ r ≡ frameNumber (frameAt (now (capture .entry)) at) ⌝ }
+{
+    match capture::frame_at(capture, at) {
+        FrameResult::Size(n) => n as u64,
+        FrameResult::Refused(r) => beside(r, 0),
     }
 }

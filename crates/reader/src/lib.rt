@@ -337,7 +337,7 @@ fn marked(tree: &[u8]) -> bool
 }
 
 // Number 1, or the link.
-fn header(tree: &[u8]) -> Checked
+pub fn header(tree: &[u8]) -> Checked
     ensures { λ r. ⌜ r ≡ C.linked (F.header (now (tree .entry))) ⌝ }
 {
     if tree.len() < 8 {

@@ -1,0 +1,9 @@
+pub mod Numbers
+pub mod Laws
+pub mod Whole
+pub mod Joins
+pub mod Coded
+pub mod Headers
+pub mod Turning
+pub mod Passing
+pub mod Examples
