@@ -322,7 +322,7 @@ static inline int pft_next(struct pft_frames *frames)
  * refused with PFT_NOT_ONE_TREE.
  */
 
-/* What a frame starts with. */
+/* What a frame starts with. In the link field of a capture they are 1, 101 and 113. */
 enum pft_link {
     PFT_ETHERNET = 1,
     PFT_RAW_IP = 2,   /* the IPv4 header itself */
