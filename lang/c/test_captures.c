@@ -330,6 +330,52 @@ static void header_bits(void)
         }
 }
 
+/* Marks of other files, among them those of pcapng and of a changed pcap, and halves exchanged. */
+static void other_marks(void)
+{
+    static const uint32_t others[] = {0,           0x0a0d0d0au, 0xa1b2cd34u, 0xa1b2c3d5u, 0xa1b2c34du,
+                                      0xa1b23cd4u, 0xb2a1d4c3u, 0xc3d4a1b2u, 0xffffffffu};
+    int order;
+    size_t i;
+
+    for (order = 0; order < ORDERS; order++)
+        for (i = 0; i < sizeof others / sizeof others[0]; i++) {
+            make_capture(0, order, others[i]);
+            COUNTS(PFT_NO_CAPTURE, 0);
+        }
+}
+
+/* Links of other files: raw IP's other numbers, the trees' own, with a check sequence's length, swapped. */
+static void other_links(int link)
+{
+    static const uint32_t others[] = {0,   2,   3,   12,          14,          100,         102,        112,
+                                      114, 276, 228, 0x30000001u, 0x30000065u, 0x65000000u, 0x71000000u, 0xffffffffu};
+    int order;
+    size_t i;
+
+    for (order = 0; order < ORDERS; order++)
+        for (i = 0; i < sizeof others / sizeof others[0]; i++) {
+            make_capture(link, order, marks[0]);
+            made.length = LINK_PLACE;
+            put(&made, others[i]);
+            COUNTS(PFT_OTHER_LINK, 0);
+        }
+}
+
+/* The fields that are not tested, all of them zero. */
+static void zero_fields(void)
+{
+    int order;
+
+    for (order = 0; order < ORDERS; order++) {
+        make_capture(0, order, marks[0]);
+        memset(made.bytes + 4, 0, LINK_PLACE - 4);
+        memset(made.bytes + FILE_HEADER, 0, CAPTURED_PLACE);
+        memset(made.bytes + FILE_HEADER + CAPTURED_PLACE + 4, 0, 4);
+        COUNTS(0, 3);
+    }
+}
+
 /* Every bit of a frame header: of its fields the captured length alone is read. */
 static void frame_header_bits(void)
 {
@@ -472,11 +518,17 @@ static void answers(void)
 
 int main(void)
 {
+    int link;
+
     make_rooms();
     good_captures();
     cut_captures(BIG);
     cut_captures(LITTLE);
     header_bits();
+    other_marks();
+    for (link = 0; link < LINKS; link++)
+        other_links(link);
+    zero_fields();
     frame_header_bits();
     long_frames();
     in_order();

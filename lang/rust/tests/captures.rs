@@ -167,6 +167,71 @@ fn with_every_bit_of_the_file_header_turned() {
     }
 }
 
+/// Marks of other files: pcapng, a changed pcap, halves exchanged.
+#[test]
+fn of_other_marks() {
+    for order in ORDERS {
+        for mark in [
+            0,
+            0x0a0d_0d0a,
+            0xa1b2_cd34,
+            0xa1b2_c3d5,
+            0xa1b2_c34d,
+            0xa1b2_3cd4,
+            0xb2a1_d4c3,
+            0xc3d4_a1b2,
+            0xffff_ffff,
+        ] {
+            let capture = capture(order, mark, ETHERNET, &seven(ETHERNET));
+            assert_eq!(both(&udp(ETHERNET), &capture), refused(Refusal::NoCapture));
+        }
+    }
+}
+
+/// Links of other files: raw IP's other numbers, the trees' own, with a check sequence's length,
+/// swapped.
+#[test]
+fn of_other_links() {
+    for (link, _) in LINK_FIELDS {
+        for order in ORDERS {
+            for field in [
+                0,
+                2,
+                3,
+                12,
+                14,
+                100,
+                102,
+                112,
+                114,
+                228,
+                276,
+                0x3000_0001,
+                0x3000_0065,
+                0x6500_0000,
+                0x7100_0000,
+                0xffff_ffff,
+            ] {
+                let capture = file_header(order, MARKS[0], field);
+                assert_eq!(both(&udp(link), &capture), refused(Refusal::OtherLink));
+            }
+        }
+    }
+}
+
+/// The fields that are not tested, all of them zero.
+#[test]
+fn with_zero_fields() {
+    for order in ORDERS {
+        let mut capture = capture(order, MARKS[0], ETHERNET, &seven(ETHERNET));
+        capture[4..LINK_PLACE].fill(0);
+        let frame = &mut capture[FILE_HEADER..][..FRAME_HEADER];
+        frame[..CAPTURED_PLACE].fill(0);
+        frame[CAPTURED_PLACE + 4..].fill(0);
+        assert_eq!(both(&udp(ETHERNET), &capture), whole(3));
+    }
+}
+
 /// Of a frame header the captured length is read, and no other field.
 #[test]
 fn with_every_bit_of_a_frame_header_turned() {
