@@ -495,6 +495,55 @@ static void every_place(void)
     TEST(pft_frame(bytes, made.length, SIZE_MAX) == (uint64_t)12 << 32);
 }
 
+/* ---- a capture of over 4 GiB: a part of 256 frames, mapped 257 times in a row */
+
+#define PART_FRAMES ((size_t)256)
+#define PARTS ((size_t)257)
+#define TAKEN ((size_t)65536) /* by a frame and its header */
+#define PART (PART_FRAMES * TAKEN)
+
+/* The parts, with room for a file header before them. */
+static uint8_t *map_parts(FILE *part)
+{
+    size_t page = (size_t)sysconf(_SC_PAGESIZE), i;
+    int memory = MAP_PRIVATE | MAP_ANONYMOUS | MAP_NORESERVE;
+    uint8_t *all = (uint8_t *)mmap(NULL, page + PARTS * PART, PROT_READ | PROT_WRITE, memory, -1, 0);
+
+    TEST(all != MAP_FAILED && part != NULL && ftruncate(fileno(part), (off_t)PART) == 0);
+    for (i = 0; i < PARTS; i++) {
+        void *place = all + page + i * PART;
+
+        TEST(mmap(place, PART, PROT_READ | PROT_WRITE, MAP_SHARED | MAP_FIXED, fileno(part), 0) == place);
+    }
+    return all + page;
+}
+
+static void large_capture(void)
+{
+    FILE *part = tmpfile();
+    uint8_t *parts = map_parts(part), *capture = parts - FILE_HEADER;
+    size_t i, length = FILE_HEADER + PARTS * PART;
+
+    make_tree(PFT_ETHERNET);
+    start(&made, LITTLE, marks[0], 1);
+    memcpy(capture, made.bytes, FILE_HEADER);
+    for (i = 0; i < PART_FRAMES; i++) { /* every second frame is UDP */
+        made.length = 0;
+        add_header(&made, (uint32_t)(TAKEN - FRAME_HEADER));
+        make_frame(0, i % 2 == 0 ? 6 : 17);
+        memcpy(parts + i * TAKEN, made.bytes, FRAME_HEADER);
+        memcpy(parts + i * TAKEN + FRAME_HEADER, frame, 60);
+    }
+    TEST(pft_count(tree.bytes, tree.length, program, ROOM, capture, length) == PARTS * PART_FRAMES / 2);
+    TEST(pft_count(tree.bytes, tree.length, program, ROOM, capture, length - 1) ==
+         ((uint64_t)14 << 32) + PARTS * PART_FRAMES / 2 - 1);
+    TEST(pft_frame(capture, length, length - TAKEN) == TAKEN - FRAME_HEADER);
+    TEST(pft_frame(capture, length - 1, length - TAKEN) == (uint64_t)14 << 32);
+    TEST(munmap(parts, PARTS * PART) == 0 && fclose(part) == 0);
+}
+
+/* ---- slices shared, answers taken apart */
+
 /* A tree that is a frame of the capture, and one that is the capture. */
 static void shared_slices(void)
 {
@@ -534,6 +583,7 @@ int main(void)
     in_order();
     small_captures();
     every_place();
+    large_capture();
     shared_slices();
     answers();
     printf("%u tests passed\n", tests);
