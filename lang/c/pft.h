@@ -120,17 +120,16 @@ uint32_t pft_direct(const uint8_t *tree, size_t tree_length, const uint8_t *fram
 /*
  * Makes the program of a tree file, runs it over each frame of a capture and counts the accepted
  * frames. A capture is a classic pcap file of either byte order, with times in microseconds (mark
- * a1b2c3d4) or nanoseconds (a1b23c4d). Its link field has to be 1 for PFT_ETHERNET, 101 for
- * PFT_RAW_IP and 113 for PFT_LINUX_SLL, in all its 32 bits; version, zone, snap length, times and
- * original lengths are not tested. A header alone is a capture of no frames, and a frame may have
- * no bytes.
+ * a1b2c3d4) or nanoseconds (a1b23c4d). Its link field has to be that of the tree's link (see enum
+ * pft_link) in all 32 bits; version, zone, snap length, times and original lengths are not tested.
+ * A header alone is a capture of no frames, and a frame may have no bytes.
  *
  * `program` is left as pft_build leaves it, whatever the capture is.
  *
- * Answer: refusal x 2^32 + accepted frames. Refused as pft_build does, then with PFT_NO_CAPTURE,
- * then PFT_OTHER_LINK, then at the first bad frame PFT_CUT_FRAME: with this one stands the count of
- * the frames before it, with all others 0. From 2^32 accepted frames on, in a capture of over 64
- * GiB, the sum does not tell the two apart.
+ * Answer: refusal x 2^32 + accepted frames. Refused with 1 to 9 as by pft_build, then with
+ * PFT_NO_CAPTURE, then PFT_OTHER_LINK, then at the first bad frame PFT_CUT_FRAME: with this one
+ * stands the count of the accepted frames before it, with all others 0. From 2^32 accepted frames
+ * on, in a capture of over 64 GiB, the sum does not tell the two apart.
  */
 uint64_t pft_count(const uint8_t *tree, size_t tree_length, uint8_t *program, size_t program_length,
                    const uint8_t *capture, size_t capture_length);
