@@ -75,8 +75,9 @@ enum pft_verdict {
 #define PFT_FRAME_HEADER_SIZE ((size_t)16)
 
 /*
- * The stack that a call may take, in bytes. Measured: a build 57,100 for one record and 146,400
- * for 127 nots over one, which is the deepest tree; a direct reading 24,700; a run below 600.
+ * The stack that a call may take, in bytes. Measured: a build 57,100 for one record and 146,700
+ * for 127 nots over one, which is the deepest tree, a count 200 more than its build; a direct
+ * reading 24,700; a run or a frame below 600.
  */
 #define PFT_STACK ((size_t)262144)
 
