@@ -6,8 +6,7 @@ mod common;
 use common::captures::*;
 use common::*;
 use dabberpearl::{
-    build, count, frames, run, Counted, Error, Frames, Refusal, Tree, Verdict, MAX_FRAME,
-    MAX_PROGRAM,
+    build, count, frames, run, Counted, Error, Refusal, Tree, Verdict, MAX_FRAME, MAX_PROGRAM,
 };
 
 fn whole(accepted: u64) -> Counted {
@@ -60,10 +59,10 @@ fn count_with(length: usize, tree: &[u8], capture: &[u8]) -> Counted {
 }
 
 /// Walks a capture: the frames are those of the reader, at the same addresses.
-fn walk(capture: &[u8]) -> Option<Frames<'_>> {
+fn walk(capture: &[u8]) {
     let Some(reading) = read(capture) else {
         assert_eq!(frames(capture).err(), Some(Refusal::NoCapture.into()));
-        return None;
+        return;
     };
     let mut walk = frames(capture).expect("a capture");
     for frame in reading.frames {
@@ -75,7 +74,6 @@ fn walk(capture: &[u8]) -> Option<Frames<'_>> {
     assert_eq!(walk.next(), cut);
     assert_eq!(walk.next(), None);
     assert_eq!(walk.at(), capture.len() - reading.rest.len());
-    Some(walk)
 }
 
 /// Both, with a buffer for any program.
@@ -265,28 +263,38 @@ fn of_long_frames() {
     }
 }
 
-#[test]
-fn in_order() {
-    let [good, other] = [ETHERNET, RAW_IP].map(|link| {
+/// Captures with faults, for a tree of Ethernet: a cut frame; also another link; also another mark.
+fn faulty() -> [Vec<u8>; 3] {
+    let [cut, other] = [ETHERNET, RAW_IP].map(|link| {
         let mut capture = capture(ORDERS[0], MARKS[0], link, &seven(link));
-        capture.pop(); // 14
+        capture.pop();
         capture
     });
-    let mut none = other.clone(); // 12, 13 and 14
+    let mut none = other.clone();
     none[0] = 0;
-    assert_eq!(both(&udp(ETHERNET), &good), cut_after(Refusal::CutFrame, 3));
-    assert_eq!(both(&udp(ETHERNET), &other), refused(Refusal::OtherLink));
-    assert_eq!(both(&udp(ETHERNET), &none), refused(Refusal::NoCapture));
-    let exact = 8 * build(&udp(ETHERNET), &mut [0; MAX_PROGRAM]).expect("a program");
-    for (length, refusal) in [
-        (0, Refusal::ShortBuffer),
-        (exact - 1, Refusal::ShortBuffer),
-        (exact, Refusal::NoCapture),
-        (exact + 1, Refusal::NoCapture),
-        (40_000, Refusal::NoCapture),
-    ] {
-        assert_eq!(count_with(length, &udp(ETHERNET), &none), refused(refusal));
+    [cut, other, none]
+}
+
+#[test]
+fn in_order() {
+    let tree = udp(ETHERNET);
+    let [cut, other, none] = faulty();
+    assert_eq!(both(&tree, &cut), cut_after(Refusal::CutFrame, 3));
+    assert_eq!(both(&tree, &other), refused(Refusal::OtherLink));
+    assert_eq!(both(&tree, &none), refused(Refusal::NoCapture));
+    let exact = 8 * build(&tree, &mut [0; MAX_PROGRAM]).expect("a program");
+    for length in [0, exact - 1] {
+        let counted = count_with(length, &tree, &none);
+        assert_eq!(counted, refused(Refusal::ShortBuffer));
     }
+    for length in [exact, exact + 1, 40_000] {
+        let counted = count_with(length, &tree, &none);
+        assert_eq!(counted, refused(Refusal::NoCapture));
+    }
+}
+
+#[test]
+fn after_the_trees_own() {
     for (tree, refusal) in [
         (vec![], Refusal::StrangeFile),
         (file(ETHERNET, vec![]), Refusal::WrongCount),
@@ -297,8 +305,8 @@ fn in_order() {
         (file(RAW_IP, ether_multicast()), Refusal::EtherOnRaw),
         (far(EITHER), Refusal::FarJump),
     ] {
-        for capture in [&good, &other, &none] {
-            assert_eq!(both(&tree, capture), refused(refusal));
+        for capture in faulty() {
+            assert_eq!(both(&tree, &capture), refused(refusal));
         }
     }
 }
