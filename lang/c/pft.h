@@ -1,5 +1,5 @@
 /*
- * pft.h: classic BPF programs made from tree files, and their runs over frames.
+ * pft.h: classic BPF programs made from tree files, and their runs over frames and captures.
  *
  * Link with libpft.a, which `rt staticlib pft` writes to target/staticlib:
  *
@@ -8,16 +8,16 @@
  * The functions of the archive are proved equal to their definitions for all inputs
  * (docs/PROMISES.md). They hold no state, allocate nothing, need no library but for memset and its
  * like, and may be called from several threads at once. A call takes at most PFT_STACK bytes of
- * stack. The inline functions below their prototypes, which take answers apart and write tree
- * files, are tested and not proved.
+ * stack. The inline functions below their prototypes, which take answers apart, walk captures and
+ * write tree files, are tested and not proved.
  *
  * Slices. Every slice is a pointer and the number of its bytes; no alignment is asked.
- *   - The bytes must be readable (for `program` of pft_build writable) during the call, and
- *     nothing else may write them. No other byte is read or written.
+ *   - The bytes must be readable (for `program` of pft_build and pft_count writable) during the
+ *     call, and nothing else may write them. No other byte is read or written.
  *   - A slice of 0 bytes may have any pointer, NULL too. NULL with another length is an error of
  *     the caller's, which no function tests.
- *   - `program` of pft_build must not overlap `tree`. The slices of pft_run, and those of
- *     pft_direct, may overlap.
+ *   - `program` of pft_build and of pft_count must not overlap their other slices. All others,
+ *     those of pft_run, `tree` and `capture` of pft_count and so on, may overlap.
  *
  * Answers are one number, which functions below take apart.
  */
@@ -33,7 +33,7 @@ extern "C" {
 #endif
 
 /* The version of libpft.a that this header is for. Each addition to the interface raises it by one. */
-#define PFT_VERSION 1
+#define PFT_VERSION 2
 
 /* Why a call is refused. Later versions add numbers. */
 enum pft_refusal {
@@ -47,7 +47,10 @@ enum pft_refusal {
     PFT_FAR_JUMP = 8,      /* a resolved distance exceeds 255 */
     PFT_SHORT_BUFFER = 9,  /* fewer than 8 x instructions bytes lent */
     PFT_LONG_FRAME = 10,   /* frame over 65,535 bytes */
-    PFT_ODD_PROGRAM = 11   /* program of length 0, over 32,768, or not a multiple of 8 */
+    PFT_ODD_PROGRAM = 11,  /* program of length 0, over 32,768, or not a multiple of 8 */
+    PFT_NO_CAPTURE = 12,   /* a short header or other mark */
+    PFT_OTHER_LINK = 13,   /* the link isn't the tree's */
+    PFT_CUT_FRAME = 14     /* a frame header or body runs past the file or is over 65,535 bytes */
 };
 
 /* How a run ends. */
@@ -67,9 +70,14 @@ enum pft_verdict {
 /* The longest program that is run. */
 #define PFT_RUN_MAX ((size_t)32768)
 
+/* The bytes before a capture's first frame header, and those of a frame header. */
+#define PFT_CAPTURE_HEADER_SIZE ((size_t)24)
+#define PFT_FRAME_HEADER_SIZE ((size_t)16)
+
 /*
- * The stack that a call may take, in bytes. Measured: a build 57,100 for one record and 146,400
- * for 127 nots over one, which is the deepest tree; a direct reading 24,700; a run below 600.
+ * The stack that a call may take, in bytes. Measured: a build 57,100 for one record and 146,700
+ * for 127 nots over one, which is the deepest tree, a count 200 more than its build; a direct
+ * reading 24,700; a run or a frame below 600.
  */
 #define PFT_STACK ((size_t)262144)
 
@@ -109,6 +117,34 @@ uint32_t pft_run(const uint8_t *program, size_t program_length, const uint8_t *f
  * Answer: 1 true or 0 false. Refused with 1 to 4 or then PFT_LONG_FRAME: 256 + refusal.
  */
 uint32_t pft_direct(const uint8_t *tree, size_t tree_length, const uint8_t *frame, size_t frame_length);
+
+/*
+ * Makes the program of a tree file, runs it over each frame of a capture and counts the accepted
+ * frames. A capture is a classic pcap file of either byte order, with times in microseconds (mark
+ * a1b2c3d4) or nanoseconds (a1b23c4d). Its link field has to be that of the tree's link (see enum
+ * pft_link) in all 32 bits; version, zone, snap length, times and original lengths are not tested.
+ * A header alone is a capture of no frames, and a frame may have no bytes.
+ *
+ * `program` is left as pft_build leaves it, whatever the capture is.
+ *
+ * Answer: refusal x 2^32 + accepted frames. Refused with 1 to 9 as by pft_build, then with
+ * PFT_NO_CAPTURE, then PFT_OTHER_LINK, then at the first bad frame PFT_CUT_FRAME: with this one
+ * stands the count of the accepted frames before it, with all others 0. From 2^32 accepted frames
+ * on, in a capture of over 64 GiB, the sum does not tell the two apart.
+ */
+uint64_t pft_count(const uint8_t *tree, size_t tree_length, uint8_t *program, size_t program_length,
+                   const uint8_t *capture, size_t capture_length);
+
+/*
+ * Measures the frame whose header stands at byte `at` of a capture, the first at
+ * PFT_CAPTURE_HEADER_SIZE. The frame is the piece of the capture from capture + at +
+ * PFT_FRAME_HEADER_SIZE on, and the next header stands behind it. pft_next walks so.
+ *
+ * Answer: the captured length. Refused with PFT_NO_CAPTURE, or then with PFT_CUT_FRAME where no
+ * whole frame of at most PFT_FRAME_MAX bytes stands, at the capture's end too: refusal x 2^32. The
+ * link is not tested, and `at` may be any number.
+ */
+uint64_t pft_frame(const uint8_t *capture, size_t capture_length, size_t at);
 
 /* ---- answers taken apart; a refusal is 0 where there is none */
 
@@ -150,6 +186,28 @@ static inline int pft_direct_truth(uint32_t answer)
     return answer == 1;
 }
 
+static inline unsigned pft_count_refusal(uint64_t answer)
+{
+    return (unsigned)(answer >> 32);
+}
+
+/* The accepted frames: with PFT_CUT_FRAME those before the bad one, with another refusal 0. */
+static inline uint32_t pft_count_accepted(uint64_t answer)
+{
+    return (uint32_t)answer;
+}
+
+static inline unsigned pft_frame_refusal(uint64_t answer)
+{
+    return (unsigned)(answer >> 32);
+}
+
+/* The captured length; 0 where there is no frame. */
+static inline size_t pft_frame_length(uint64_t answer)
+{
+    return (uint32_t)answer;
+}
+
 /* ---- words */
 
 /* The word of a refusal, for any number: one of a later version is an "unknown refusal". */
@@ -168,6 +226,9 @@ static inline const char *pft_refusal_word(unsigned refusal)
     case PFT_SHORT_BUFFER: return "short buffer";
     case PFT_LONG_FRAME: return "long frame";
     case PFT_ODD_PROGRAM: return "odd program";
+    case PFT_NO_CAPTURE: return "no capture";
+    case PFT_OTHER_LINK: return "other link";
+    case PFT_CUT_FRAME: return "cut frame";
     default: return "unknown refusal";
     }
 }
@@ -183,6 +244,63 @@ static inline const char *pft_verdict_word(unsigned verdict)
     case PFT_BROKEN: return "broken";
     default: return "unknown verdict";
     }
+}
+
+/*
+ * ---- captures walked
+ *
+ * The frames of a capture in turn, each a piece of the capture itself:
+ *
+ *     struct pft_frames frames = pft_frames_of(capture, capture_length);
+ *     while (pft_next(&frames))
+ *         answer = pft_run(program, program_length, frames.frame, frames.length);
+ *     if (frames.refusal != 0)
+ *         puts(pft_refusal_word(frames.refusal));
+ *
+ * A bad frame ends the walk after the frames before it. The link is not tested: pft_count does.
+ */
+
+/* Where a walk is. */
+struct pft_frames {
+    const uint8_t *capture;
+    size_t capture_length;
+    size_t at;            /* where the next header stands: in the end the capture's end, or a bad frame's */
+    const uint8_t *frame; /* the frame that pft_next gave; NULL where it gave none */
+    size_t length;
+    unsigned refusal; /* PFT_NO_CAPTURE or PFT_CUT_FRAME, where one ended the walk */
+};
+
+/* A walk before its first frame. */
+static inline struct pft_frames pft_frames_of(const uint8_t *capture, size_t capture_length)
+{
+    struct pft_frames frames;
+
+    frames.capture = capture;
+    frames.capture_length = capture_length;
+    frames.at = PFT_CAPTURE_HEADER_SIZE;
+    frames.frame = NULL;
+    frames.length = 0;
+    frames.refusal = 0;
+    return frames;
+}
+
+/* Goes to the next frame; 0 where there is none. */
+static inline int pft_next(struct pft_frames *frames)
+{
+    uint64_t answer = pft_frame(frames->capture, frames->capture_length, frames->at);
+    int at_end = frames->at == frames->capture_length;
+
+    frames->refusal = pft_frame_refusal(answer);
+    frames->length = pft_frame_length(answer);
+    if (frames->refusal != 0) {
+        frames->frame = NULL;
+        if (frames->refusal == PFT_CUT_FRAME && at_end)
+            frames->refusal = 0;
+        return 0;
+    }
+    frames->frame = frames->capture + frames->at + PFT_FRAME_HEADER_SIZE;
+    frames->at += PFT_FRAME_HEADER_SIZE + frames->length;
+    return 1;
 }
 
 /*
@@ -204,7 +322,7 @@ static inline const char *pft_verdict_word(unsigned verdict)
  * refused with PFT_NOT_ONE_TREE.
  */
 
-/* What a frame starts with. */
+/* What a frame starts with. In the link field of a capture they are 1, 101 and 113. */
 enum pft_link {
     PFT_ETHERNET = 1,
     PFT_RAW_IP = 2,   /* the IPv4 header itself */

@@ -1,6 +1,7 @@
 /*
  * A stand-in for libpft.a of another version, which refuses every call with a number that has no
- * word. Without VERSION it is an archive from before there was one.
+ * word. Without VERSION it is an archive from before there was one; that of version 1 knows no
+ * captures.
  */
 #include "pft.h"
 
@@ -30,3 +31,18 @@ uint32_t pft_direct(const uint8_t *tree, size_t tree_length, const uint8_t *fram
     (void)tree, (void)tree_length, (void)frame, (void)frame_length;
     return 256 + REFUSAL;
 }
+
+#if !defined VERSION || VERSION != 1
+uint64_t pft_count(const uint8_t *tree, size_t tree_length, uint8_t *program, size_t program_length,
+                   const uint8_t *capture, size_t capture_length)
+{
+    (void)tree, (void)tree_length, (void)program, (void)program_length, (void)capture, (void)capture_length;
+    return (uint64_t)REFUSAL << 32;
+}
+
+uint64_t pft_frame(const uint8_t *capture, size_t capture_length, size_t at)
+{
+    (void)capture, (void)capture_length, (void)at;
+    return (uint64_t)REFUSAL << 32;
+}
+#endif

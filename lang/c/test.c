@@ -4,38 +4,10 @@
  * ends the process.
  */
 #define _DEFAULT_SOURCE /* mmap's MAP_ANONYMOUS */
-#include <string.h>
-#include <sys/mman.h>
 #include <ucontext.h>
-#include <unistd.h>
 
 #include "pft.h"
-#include "test.h"
-
-/* ---- memory with nothing around it */
-
-#define ROOM ((size_t)69632) /* 17 pages of 4,096 bytes */
-
-enum { TREE, PROGRAM, FRAME, PLACES };
-
-static uint8_t *rooms[PLACES];
-
-static uint8_t *make_room(size_t size)
-{
-    size_t page = (size_t)sysconf(_SC_PAGESIZE);
-    void *all = mmap(NULL, size + 2 * page, PROT_NONE, MAP_PRIVATE | MAP_ANONYMOUS, -1, 0);
-    uint8_t *room = (uint8_t *)all + page;
-
-    TEST(all != MAP_FAILED);
-    TEST(mprotect(room, size, PROT_READ | PROT_WRITE) == 0);
-    return room;
-}
-
-/* A place for so many bytes at the end (1) or the start (0) of a room. */
-static uint8_t *lend(int room, size_t length, int end)
-{
-    return rooms[room] + (end ? ROOM - length : 0);
-}
+#include "rooms.h"
 
 /* ---- tree files */
 
@@ -101,16 +73,6 @@ static struct file far_file(uint8_t last)
 
 /* ---- calls at both ends */
 
-static int all_are(const uint8_t *bytes, size_t length, uint8_t value)
-{
-    size_t i;
-
-    for (i = 0; i < length; i++)
-        if (bytes[i] != value)
-            return 0;
-    return 1;
-}
-
 /* The answer of a build into so many bytes; the program is left in `out`. */
 static uint32_t build(const struct file *f, size_t length, uint8_t *out)
 {
@@ -120,13 +82,12 @@ static uint32_t build(const struct file *f, size_t length, uint8_t *out)
     for (end = 0; end < 2; end++) {
         uint8_t *tree = lend(TREE, f->length, end), *program = lend(PROGRAM, length, end);
 
-        memset(rooms[PROGRAM], 0xc5, ROOM);
+        memset(rooms[PROGRAM], AROUND, ROOM);
         memcpy(tree, f->bytes, f->length);
-        memset(program, 0x5a, length);
+        memset(program, STALE, length);
         answers[end] = pft_build(tree, f->length, program, length);
         TEST(memcmp(tree, f->bytes, f->length) == 0);
-        TEST(all_are(rooms[PROGRAM], (size_t)(program - rooms[PROGRAM]), 0xc5));
-        TEST(all_are(program + length, (size_t)(rooms[PROGRAM] + ROOM - (program + length)), 0xc5));
+        TEST(untouched_around(PROGRAM, program, length));
         memcpy(out, program, length);
     }
     TEST(answers[0] == answers[1]);
@@ -284,6 +245,12 @@ static void no_bytes(void)
         TEST(pft_direct(f.bytes, f.length, none, 0) == 1);
         TEST(pft_direct(none, 0, none, 0) == 256 + 1);
         TEST(pft_direct(none, 0, frame, 14) == 256 + 1);
+        TEST(pft_count(none, 0, none, 0, none, 0) == (uint64_t)1 << 32);
+        TEST(pft_count(f.bytes, f.length, none, 0, none, 0) == (uint64_t)9 << 32);
+        TEST(pft_count(f.bytes, f.length, buffer, 16, none, 0) == (uint64_t)12 << 32);
+        TEST(pft_run(buffer, 16, none, 0) == 65536 + 1);
+        TEST(pft_frame(none, 0, 0) == (uint64_t)12 << 32);
+        TEST(pft_frame(none, 0, PFT_CAPTURE_HEADER_SIZE) == (uint64_t)12 << 32);
     }
 }
 
@@ -298,10 +265,16 @@ static void shared_slices(void)
     TEST(pft_direct(f.bytes, f.length, f.bytes, f.length) == 0);
 }
 
-/* The deepest trees, 127 nots over each kind, on a stack of PFT_STACK bytes. */
+/*
+ * The deepest trees, 127 nots over each kind, on a stack of PFT_STACK bytes: over a frame of zeros,
+ * and over a capture of that frame.
+ */
+
+static uint8_t capture[24 + 16 + 128] = {0xa1, 0xb2, 0xc3, 0xd4};
 
 static struct file deep;
 static uint32_t deep_answers[3];
+static uint64_t deep_count;
 static ucontext_t here, there;
 
 static void deep_calls(void)
@@ -309,6 +282,7 @@ static void deep_calls(void)
     deep_answers[0] = pft_build(deep.bytes, deep.length, buffer, PFT_PROGRAM_MAX);
     deep_answers[1] = pft_run(buffer, 8 * pft_build_count(deep_answers[0]), frame, 128);
     deep_answers[2] = pft_direct(deep.bytes, deep.length, frame, 128);
+    deep_count = pft_count(deep.bytes, deep.length, buffer, PFT_PROGRAM_MAX, capture, sizeof capture);
 }
 
 static void on_small_stack(uint8_t *stack, uint8_t kind, uint8_t protocol)
@@ -327,6 +301,7 @@ static void on_small_stack(uint8_t *stack, uint8_t kind, uint8_t protocol)
     TEST(swapcontext(&here, &there) == 0);
     TEST(pft_build_refusal(deep_answers[0]) == 0 && pft_build_count(deep_answers[0]) > 127);
     TEST(pft_run_verdict(deep_answers[1]) == (deep_answers[2] ? PFT_ACCEPTED : PFT_DROPPED));
+    TEST(deep_count == deep_answers[2]);
 }
 
 static void deep_trees(void)
@@ -335,6 +310,8 @@ static void deep_trees(void)
     uint8_t kind;
 
     memset(frame, 0, sizeof frame);
+    capture[23] = 1;        /* Ethernet */
+    capture[24 + 11] = 128; /* the captured length */
     for (kind = PROTOCOL; kind <= 24; kind++)
         on_small_stack(stack, kind, kind == PROTOCOL ? TCP : 0);
 }
@@ -348,7 +325,7 @@ static void words(void)
     TEST(strcmp(pft_verdict_word(0), "no verdict") == 0);
     TEST(strcmp(pft_verdict_word(5), "unknown verdict") == 0);
     TEST(strcmp(pft_refusal_word(0), "not refused") == 0);
-    TEST(strcmp(pft_refusal_word(12), "unknown refusal") == 0);
+    TEST(strcmp(pft_refusal_word(15), "unknown refusal") == 0);
     TEST(strcmp(pft_refusal_word(65535), "unknown refusal") == 0);
 }
 
@@ -360,10 +337,7 @@ static void version(void)
 
 int main(void)
 {
-    int i;
-
-    for (i = 0; i < PLACES; i++)
-        rooms[i] = make_room(ROOM);
+    make_rooms();
     refused_builds();
     builds();
     runs();

@@ -3,8 +3,8 @@
 
 use std::path::{Path, PathBuf};
 
-/// Every archive exports it, but for those made before there was a version.
-const VERSION_SYMBOL: &[u8] = b"pft_version";
+/// What earlier archives lack, in the order in which it came.
+const ADDED: [&str; 3] = ["pft_version", "pft_count", "pft_frame"];
 
 fn folder() -> PathBuf {
     match std::env::var_os("PFT_LIB_DIR") {
@@ -13,17 +13,23 @@ fn folder() -> PathBuf {
     }
 }
 
+fn names(archive: &[u8], symbol: &str) -> bool {
+    let mut parts = archive.windows(symbol.len());
+    parts.any(|part| part == symbol.as_bytes())
+}
+
 /// What is wrong with an archive, if anything.
-fn fault(archive: &Path) -> Option<&'static str> {
+fn fault(archive: &Path) -> Option<String> {
     let Ok(bytes) = std::fs::read(archive) else {
         return Some(
-            "cannot be read: make it by `rt staticlib pft`, or set PFT_LIB_DIR to its folder",
+            "cannot be read: make it by `rt staticlib pft`, or set PFT_LIB_DIR to its folder"
+                .to_string(),
         );
     };
-    let named = bytes
-        .windows(VERSION_SYMBOL.len())
-        .any(|part| part == VERSION_SYMBOL);
-    (!named).then_some("is too old: it has no pft_version. Make it anew by `rt staticlib pft`")
+    let lacking = ADDED.into_iter().find(|symbol| !names(&bytes, symbol))?;
+    Some(format!(
+        "is too old: it has no {lacking}. Make it anew by `rt staticlib pft`"
+    ))
 }
 
 fn main() {

@@ -31,6 +31,12 @@ pub enum Refusal {
     LongFrame = 10,
     /// 11: program of length 0, over 32,768, or not a multiple of 8.
     OddProgram = 11,
+    /// 12: a short header or other mark.
+    NoCapture = 12,
+    /// 13: the link isn't the tree's.
+    OtherLink = 13,
+    /// 14: a frame header or body runs past the file or is over 65,535 bytes.
+    CutFrame = 14,
 }
 
 impl Refusal {
@@ -47,6 +53,9 @@ impl Refusal {
         Refusal::ShortBuffer,
         Refusal::LongFrame,
         Refusal::OddProgram,
+        Refusal::NoCapture,
+        Refusal::OtherLink,
+        Refusal::CutFrame,
     ];
 
     /// Its number.
@@ -76,6 +85,9 @@ impl Refusal {
             Refusal::ShortBuffer => "short buffer",
             Refusal::LongFrame => "long frame",
             Refusal::OddProgram => "odd program",
+            Refusal::NoCapture => "no capture",
+            Refusal::OtherLink => "other link",
+            Refusal::CutFrame => "cut frame",
         }
     }
 }
@@ -229,6 +241,54 @@ pub struct Outcome {
     pub steps: u32,
 }
 
+/// What a count answers: how many frames of a capture are accepted, and what stopped it, if
+/// something did.
+///
+/// A bad frame does not undo the count of the frames before it, so the two stand side by side.
+/// [`into_result`](Counted::into_result) is for who wants whole captures alone.
+#[derive(Clone, Copy, Debug, PartialEq, Eq, Hash)]
+#[must_use = "a count may have been stopped by an error"]
+pub struct Counted {
+    /// The accepted frames: with [`CutFrame`](Refusal::CutFrame) those before the bad one, with
+    /// another error 0.
+    pub accepted: u64,
+    /// What stopped the count; none where the capture was read to its end.
+    pub error: Option<Error>,
+}
+
+impl Counted {
+    /// The accepted frames of a capture that was read to its end.
+    ///
+    /// # Errors
+    ///
+    /// What stopped the count.
+    ///
+    /// ```
+    /// use dabberpearl::{Counted, Refusal};
+    ///
+    /// let whole = Counted { accepted: 7, error: None };
+    /// assert_eq!(whole.into_result(), Ok(7));
+    /// let cut = Counted { accepted: 7, error: Some(Refusal::CutFrame.into()) };
+    /// assert_eq!(cut.into_result(), Err(Refusal::CutFrame.into()));
+    /// ```
+    pub const fn into_result(self) -> Result<u64, Error> {
+        match self.error {
+            None => Ok(self.accepted),
+            Some(error) => Err(error),
+        }
+    }
+}
+
+/// No frame was read.
+impl From<Error> for Counted {
+    fn from(error: Error) -> Counted {
+        Counted {
+            accepted: 0,
+            error: Some(error),
+        }
+    }
+}
+
 /// The error of a number that is a refusal's.
 fn refused(number: u32) -> Error {
     Refusal::try_from(number).map_or_else(|unknown| unknown, Error::Refused)
@@ -261,6 +321,23 @@ pub(crate) fn read(answer: u32) -> Result<bool, Error> {
         1 => Ok(true),
         2..=256 => Err(Error::UnknownAnswer(answer)),
         _ => Err(refused(answer - 256)),
+    }
+}
+
+/// Refusal × 2^32 + accepted frames.
+pub(crate) fn counted(answer: u64) -> Counted {
+    let refusal = (answer >> 32) as u32;
+    Counted {
+        accepted: answer & 0xffff_ffff,
+        error: (refusal != 0).then(|| refused(refusal)),
+    }
+}
+
+/// The captured length, or refusal × 2^32.
+pub(crate) fn framed(answer: u64) -> Result<usize, Error> {
+    match (answer >> 32) as u32 {
+        0 => Ok(answer as usize),
+        refusal => Err(refused(refusal)),
     }
 }
 
@@ -327,6 +404,42 @@ mod tests {
         }
         for number in unknown(u32::MAX - 256) {
             assert_eq!(read(256 + number), Err(Error::UnknownRefusal(number)));
+        }
+    }
+
+    #[test]
+    fn numbers_of_counts() {
+        for accepted in [0, 1, 0xffff_ffff] {
+            let counted_of = |number| counted((u64::from(number) << 32) + accepted);
+            let stopped_by = |error| Counted { accepted, error };
+            assert_eq!(counted_of(0), stopped_by(None));
+            for &refusal in Refusal::ALL {
+                assert_eq!(
+                    counted_of(refusal.number()),
+                    stopped_by(Some(refusal.into()))
+                );
+            }
+            for number in unknown(u32::MAX) {
+                let error = Error::UnknownRefusal(number);
+                assert_eq!(counted_of(number), stopped_by(Some(error)));
+            }
+        }
+    }
+
+    #[test]
+    fn numbers_of_frames() {
+        for length in [0, 1, 65_535] {
+            assert_eq!(framed(length as u64), Ok(length));
+        }
+        for &refusal in Refusal::ALL {
+            assert_eq!(
+                framed(u64::from(refusal.number()) << 32),
+                Err(refusal.into())
+            );
+        }
+        for number in unknown(u32::MAX) {
+            let error = Error::UnknownRefusal(number);
+            assert_eq!(framed(u64::from(number) << 32), Err(error));
         }
     }
 

@@ -21,6 +21,15 @@ mod c {
             frame: *const u8,
             frame_length: usize,
         ) -> u32;
+        pub fn pft_count(
+            tree: *const u8,
+            tree_length: usize,
+            program: *mut u8,
+            program_length: usize,
+            capture: *const u8,
+            capture_length: usize,
+        ) -> u64;
+        pub fn pft_frame(capture: *const u8, capture_length: usize, at: usize) -> u64;
         pub fn pft_version() -> u32;
     }
 }
@@ -48,6 +57,27 @@ pub fn direct(tree: &[u8], frame: &[u8]) -> u32 {
     // SAFETY: each pointer and length is that of a slice which lives through the call; the
     // function writes neither and keeps neither.
     unsafe { c::pft_direct(tree.as_ptr(), tree.len(), frame.as_ptr(), frame.len()) }
+}
+
+pub fn count(tree: &[u8], program: &mut [u8], capture: &[u8]) -> u64 {
+    // SAFETY: each pointer and length is that of a slice which lives through the call, `program`
+    // is lent mutably and so overlaps nothing, and the function keeps none.
+    unsafe {
+        c::pft_count(
+            tree.as_ptr(),
+            tree.len(),
+            program.as_mut_ptr(),
+            program.len(),
+            capture.as_ptr(),
+            capture.len(),
+        )
+    }
+}
+
+pub fn frame(capture: &[u8], at: usize) -> u64 {
+    // SAFETY: pointer and length are those of a slice which lives through the call; the function
+    // writes and keeps nothing, and takes any `at`.
+    unsafe { c::pft_frame(capture.as_ptr(), capture.len(), at) }
 }
 
 pub fn version() -> u32 {

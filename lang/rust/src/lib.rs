@@ -1,8 +1,9 @@
-//! Classic BPF programs made from trees of conditions, and their runs over frames.
+//! Classic BPF programs made from trees of conditions, and their runs over frames and captures.
 //!
 //! A [`Tree`] holds conditions on a frame, joined by and, or and not. [`Program::from_tree`] turns
 //! it into a program, [`Program::run`] runs that over a frame, and [`Tree::holds`] reads the tree
-//! on a frame without one.
+//! on a frame without one. [`Tree::count`] tells how many frames of a classic pcap file the tree
+//! accepts, and [`frames`] gives them one by one.
 //!
 //! ```
 //! use dabberpearl::conditions::*;
@@ -25,10 +26,10 @@
 //! # Ok::<(), dabberpearl::Error>(())
 //! ```
 //!
-//! [`build`], [`run`] and [`direct`] do the same with bytes of the caller's. All three are Rattle,
-//! proved equal to their definitions for all inputs, and linked from `libpft.a`; this crate is
-//! their safe face. What it adds, the making and taking apart of trees and answers and the calls
-//! themselves, is tested and not proved.
+//! [`build`], [`run`], [`direct`] and [`count`] do the same with bytes of the caller's. All four
+//! are Rattle, proved equal to their definitions for all inputs, and linked from `libpft.a`; this
+//! crate is their safe face. What it adds, the making and taking apart of trees and answers, the
+//! step from a frame to the next and the calls themselves, is tested and not proved.
 //!
 //! What is proved of an accepted tree, in short: its program has 2 to 3,946 instructions, all
 //! jumps lead forward, and a run takes no more steps than that. Where a run is not
@@ -46,12 +47,14 @@
 //! # Memory
 //!
 //! The crate takes `core` alone and no heap. A [`Tree`] has 3 KiB and a [`Program`] 31 KiB. A build
-//! takes up to 256 KiB of stack, whatever the thread; the other calls a tenth of that.
+//! takes up to 256 KiB of stack, whatever the thread, and so does a count; the other calls a tenth
+//! of that. Frames are pieces of the capture that was lent, and never copied.
 
 #![no_std]
 #![deny(missing_docs, unsafe_code)]
 
 mod answers;
+mod capture;
 mod condition;
 pub mod conditions;
 #[allow(unsafe_code)]
@@ -61,7 +64,8 @@ mod record;
 mod terms;
 mod tree;
 
-pub use answers::{Error, Outcome, Refusal, Verdict};
+pub use answers::{Counted, Error, Outcome, Refusal, Verdict};
+pub use capture::Frames;
 pub use condition::Condition;
 pub use program::{Instruction, Instructions, Program};
 pub use record::Record;
@@ -75,7 +79,7 @@ struct Readme;
 
 /// The version of libpft.a that this crate is made for. Each addition to the interface raises it
 /// by one.
-pub const VERSION: u32 = 1;
+pub const VERSION: u32 = 2;
 
 /// The most records of a tree.
 pub const MAX_RECORDS: usize = 128;
@@ -88,8 +92,12 @@ pub const MAX_INSTRUCTIONS: usize = 3_946;
 pub const MAX_PROGRAM: usize = 8 * MAX_INSTRUCTIONS;
 /// The longest program that is run.
 pub const MAX_RUN: usize = 32_768;
-/// The longest frame that is run or read.
+/// The longest frame that is run or read, and the longest of a capture.
 pub const MAX_FRAME: usize = 65_535;
+/// The bytes of a capture before its first frame header.
+pub const CAPTURE_HEADER: usize = 24;
+/// The bytes of a frame header.
+pub const FRAME_HEADER: usize = 16;
 
 /// The version of the libpft.a that is linked.
 pub fn archive_version() -> u32 {
@@ -97,8 +105,8 @@ pub fn archive_version() -> u32 {
 }
 
 /// Whether the libpft.a that is linked has all that this crate calls: its version is [`VERSION`]
-/// or a later one. [`Program::from_tree`] and the reading of a [`Tree`] ask this; who calls
-/// [`build`], [`run`] or [`direct`] asks once.
+/// or a later one. [`Program::from_tree`], [`Tree::count`] and the reading of a [`Tree`] ask this;
+/// who calls [`build`], [`run`], [`direct`], [`count`] or [`frames`] asks once.
 ///
 /// # Errors
 ///
@@ -176,4 +184,66 @@ pub fn run(program: &[u8], frame: &[u8]) -> Result<Outcome, Error> {
 /// ```
 pub fn direct(tree: &[u8], frame: &[u8]) -> Result<bool, Error> {
     answers::read(ffi::direct(tree, frame))
+}
+
+/// Builds the program of a tree file into a lent buffer and runs it over each frame of a capture.
+///
+/// A capture is a classic pcap file of either byte order, with times in microseconds or
+/// nanoseconds; of its header mark and link are tested and no other field. The buffer is left as
+/// [`build`] leaves it, whatever the capture is. [`Tree::count`] lends one.
+///
+/// The error is a refusal of [`build`], then [`NoCapture`](Refusal::NoCapture), then
+/// [`OtherLink`](Refusal::OtherLink), then at the first bad frame [`CutFrame`](Refusal::CutFrame),
+/// beside which the accepted frames before it stand.
+///
+/// From 2^32 accepted frames on, in a capture of over 64 GiB, libpft.a does not tell their count
+/// from a refusal; such a capture is for [`frames`].
+///
+/// ```
+/// use dabberpearl::{conditions::*, count, Counted, Refusal, Tree, MAX_PROGRAM};
+///
+/// let tree = Tree::ethernet(ether_multicast())?;
+/// let mut program = [0; MAX_PROGRAM];
+/// let refused = count(tree.as_bytes(), &mut program, b"no capture");
+/// assert_eq!(refused, Counted { accepted: 0, error: Some(Refusal::NoCapture.into()) });
+/// assert_eq!(program[..8], [0x30, 0, 0, 0, 0, 0, 0, 0]); // the program is there
+/// # Ok::<(), dabberpearl::Error>(())
+/// ```
+pub fn count(tree: &[u8], program: &mut [u8], capture: &[u8]) -> Counted {
+    answers::counted(ffi::count(tree, program, capture))
+}
+
+/// The frames of a capture, each a piece of it; a bad frame is an error after those before it. The
+/// link is not tested: [`count`] does.
+///
+/// # Errors
+///
+/// [`NoCapture`](Refusal::NoCapture) at once; [`CutFrame`](Refusal::CutFrame) as the last item.
+///
+/// ```
+/// use dabberpearl::{conditions::*, frames, Error, Program, Refusal, Tree};
+///
+/// /// How many bytes the accepted frames of a capture have.
+/// fn bytes_of(capture: &[u8], program: &Program) -> Result<usize, Error> {
+///     let mut sum = 0;
+///     for frame in frames(capture)? {
+///         let frame = frame?;
+///         if program.accepts(frame) {
+///             sum += frame.len();
+///         }
+///     }
+///     Ok(sum)
+/// }
+///
+/// let mut capture = [0; 24 + 16 + 4 + 16];
+/// capture[..4].copy_from_slice(&0xa1b2c3d4_u32.to_be_bytes()); // the mark
+/// capture[24 + 11] = 4; // a frame of 4 bytes, and another of none
+/// let program = Program::from_tree(&Tree::ethernet(ether_multicast().not())?)?;
+/// assert_eq!(bytes_of(&capture, &program), Ok(4));
+/// assert_eq!(bytes_of(&capture[..59], &program), Err(Refusal::CutFrame.into()));
+/// assert_eq!(frames(&capture[..59])?.flatten().count(), 1);
+/// # Ok::<(), dabberpearl::Error>(())
+/// ```
+pub fn frames(capture: &[u8]) -> Result<Frames<'_>, Error> {
+    Frames::new(capture)
 }

@@ -3,7 +3,7 @@
 use core::fmt;
 use core::str::FromStr;
 
-/// What a frame starts with.
+/// What a frame starts with. In the link field of a capture they are 1, 101 and 113.
 #[derive(Clone, Copy, Debug, PartialEq, Eq, Hash)]
 #[non_exhaustive]
 pub enum Link {

@@ -5,7 +5,10 @@ use core::iter::FusedIterator;
 use core::slice;
 
 use crate::record::RECORD;
-use crate::{check_archive, direct, Condition, Error, Link, Record, Refusal, MAX_TREE};
+use crate::{
+    check_archive, count, direct, Condition, Counted, Error, Link, Record, Refusal, MAX_PROGRAM,
+    MAX_TREE,
+};
 
 /// The bytes before the first record.
 const HEADER: usize = 8;
@@ -136,6 +139,35 @@ impl Tree {
     /// ```
     pub fn holds(&self, frame: &[u8]) -> Result<bool, Error> {
         direct(self.as_bytes(), frame)
+    }
+
+    /// Builds its program and counts the frames of a capture that it accepts: [`count`] without
+    /// a buffer of the caller's.
+    ///
+    /// ```
+    /// use dabberpearl::{conditions::*, Counted, Refusal, Tree};
+    ///
+    /// let mut capture = [0; 24 + 16 + 10];
+    /// capture[..4].copy_from_slice(&0xa1b2c3d4_u32.to_be_bytes()); // the mark
+    /// capture[23] = 101; // the link: RawIp
+    /// capture[24 + 11] = 10; // the captured length of the frame
+    /// capture[40] = 0x45; // IPv4, a header of 20 bytes
+    /// capture[49] = 17; // UDP
+    ///
+    /// let tree = Tree::raw_ip(protocol(Udp))?;
+    /// assert_eq!(tree.count(&capture), Counted { accepted: 1, error: None });
+    /// let cut = tree.count(&capture[..49]);
+    /// assert_eq!(cut, Counted { accepted: 0, error: Some(Refusal::CutFrame.into()) });
+    ///
+    /// let other = Tree::ethernet(protocol(Udp))?;
+    /// assert_eq!(other.count(&capture).into_result(), Err(Refusal::OtherLink.into()));
+    /// # Ok::<(), dabberpearl::Error>(())
+    /// ```
+    pub fn count(&self, capture: &[u8]) -> Counted {
+        match check_archive() {
+            Ok(()) => count(self.as_bytes(), &mut [0; MAX_PROGRAM], capture),
+            Err(error) => error.into(),
+        }
     }
 }
 

@@ -1,10 +1,14 @@
 //! The C header and this crate say the same, and both are for the archive that is linked.
 
+use std::collections::BTreeSet;
+
 use dabberpearl::{
-    archive_version, Refusal, MAX_FRAME, MAX_INSTRUCTIONS, MAX_RUN, MAX_TREE, VERSION,
+    archive_version, Refusal, CAPTURE_HEADER, FRAME_HEADER, MAX_FRAME, MAX_INSTRUCTIONS, MAX_RUN,
+    MAX_TREE, VERSION,
 };
 
 const HEADER: &str = include_str!("../../c/pft.h");
+const CALLS: &str = include_str!("../src/ffi.rs");
 
 /// What follows a text in the header, up to another.
 fn between<'a>(start: &str, end: char) -> Option<&'a str> {
@@ -30,6 +34,8 @@ fn limits() {
         ("PFT_FRAME_MAX", MAX_FRAME),
         ("PFT_COUNT_MAX", MAX_INSTRUCTIONS),
         ("PFT_RUN_MAX", MAX_RUN),
+        ("PFT_CAPTURE_HEADER_SIZE", CAPTURE_HEADER),
+        ("PFT_FRAME_HEADER_SIZE", FRAME_HEADER),
     ] {
         let defined = between(&format!("#define {name} ((size_t)"), ')');
         assert_eq!(defined.map(number), Some(limit), "{name}");
@@ -53,4 +59,29 @@ fn refusals() {
         let worded = format!("case {name}: return \"{}\";", refusal.word());
         assert!(HEADER.contains(&worded), "{worded}");
     }
+}
+
+/// The functions of the archive with the bits of their answers, as the header declares them.
+fn declared() -> BTreeSet<(&'static str, &'static str)> {
+    let lines = HEADER.lines().filter_map(|line| {
+        let (bits, rest) = line.strip_prefix("uint")?.split_once("_t ")?;
+        Some((rest.strip_prefix("pft_")?.split('(').next()?, bits))
+    });
+    lines.collect()
+}
+
+/// The same, as the crate declares them.
+fn called() -> BTreeSet<(&'static str, &'static str)> {
+    let parts = CALLS.split("pub fn pft_").skip(1).filter_map(|part| {
+        let (name, rest) = part.split_once('(')?;
+        let (_, answer) = rest.split_once("-> u")?;
+        Some((name, answer.split(';').next()?))
+    });
+    parts.collect()
+}
+
+#[test]
+fn functions() {
+    assert_eq!(declared(), called());
+    assert!(declared().contains(&("frame", "64")));
 }

@@ -7,25 +7,9 @@ use dabberpearl::{
     build, direct, run, Error, Program, Refusal, MAX_FRAME, MAX_PROGRAM, MAX_RUN, MAX_TREE,
 };
 
-const MARGIN: usize = 24;
-const CANARY: u8 = 0xc5;
-const STALE: u8 = 0x5a;
-
-/// Builds into the middle of a larger buffer; nothing around it may change. The answer, and the
-/// lent part after.
+/// Builds into a buffer of a length: the answer, and the buffer after.
 fn build_into(tree: &[u8], length: usize) -> (Result<usize, Error>, Vec<u8>) {
-    let mut space = vec![CANARY; length + 2 * MARGIN];
-    space[MARGIN..MARGIN + length].fill(STALE);
-    let answer = build(tree, &mut space[MARGIN..MARGIN + length]);
-    assert!(
-        space[..MARGIN].iter().all(|&b| b == CANARY),
-        "a byte before the buffer"
-    );
-    assert!(
-        space[MARGIN + length..].iter().all(|&b| b == CANARY),
-        "a byte after the buffer"
-    );
-    (answer, space[MARGIN..MARGIN + length].to_vec())
+    lend(length, |buffer| build(tree, buffer))
 }
 
 /// A file with its refusal, number and word.

@@ -128,18 +128,6 @@ fn most_steps() {
     );
 }
 
-/// A frame that reaches 64 bytes past the network start, of few values.
-fn random_frame(rng: &mut Rng) -> Vec<u8> {
-    let mut frame: Vec<u8> = (0..80 + rng.below(20))
-        .map(|_| [0, 1, 6, 17, 53, 80, 255][rng.below(7)])
-        .collect();
-    let kind: u16 = [0x0800, 0x86dd, 0x0806][rng.below(3)];
-    for place in [12, 14] {
-        frame[place..place + 2].copy_from_slice(&kind.to_be_bytes());
-    }
-    frame
-}
-
 /// Demand 3 through this crate: program and direct reading agree on whole frames, and what a run
 /// over a part decides holds of the whole.
 #[test]

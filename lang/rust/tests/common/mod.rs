@@ -1,5 +1,7 @@
-//! Tree files for the tests, as document 01 lays them out.
+//! Tree files for the tests, as document 01 lays them out, frames and lent buffers.
 #![allow(dead_code)] // each test takes what it needs
+
+pub mod captures;
 
 pub const ETHERNET: u8 = 1;
 pub const RAW_IP: u8 = 2;
@@ -89,6 +91,28 @@ pub fn far(last: u8) -> Vec<u8> {
     file(ETHERNET, and(tree, host6(last)))
 }
 
+const MARGIN: usize = 24;
+const CANARY: u8 = 0xc5;
+/// What a lent buffer holds before a call.
+const STALE: u8 = 0x5a;
+
+/// Lends the middle of a larger buffer to a call; nothing around it may change. The call's answer,
+/// and the lent part after.
+pub fn lend<A>(length: usize, call: impl FnOnce(&mut [u8]) -> A) -> (A, Vec<u8>) {
+    let mut space = vec![CANARY; length + 2 * MARGIN];
+    space[MARGIN..MARGIN + length].fill(STALE);
+    let answer = call(&mut space[MARGIN..MARGIN + length]);
+    assert!(
+        space[..MARGIN].iter().all(|&b| b == CANARY),
+        "a byte before the buffer"
+    );
+    assert!(
+        space[MARGIN + length..].iter().all(|&b| b == CANARY),
+        "a byte after the buffer"
+    );
+    (answer, space[MARGIN..MARGIN + length].to_vec())
+}
+
 /// splitmix64: the same draws on every machine.
 pub struct Rng(pub u64);
 
@@ -124,4 +148,16 @@ pub fn random_tree(rng: &mut Rng, depth: usize) -> Vec<Record> {
         3 => or(random_tree(rng, depth - 1), random_tree(rng, depth - 1)),
         _ => not(random_tree(rng, depth - 1)),
     }
+}
+
+/// A frame that reaches 64 bytes past the network start, of few values.
+pub fn random_frame(rng: &mut Rng) -> Vec<u8> {
+    let mut frame: Vec<u8> = (0..80 + rng.below(20))
+        .map(|_| [0, 1, 6, 17, 53, 80, 255][rng.below(7)])
+        .collect();
+    let kind: u16 = [0x0800, 0x86dd, 0x0806][rng.below(3)];
+    for place in [12, 14] {
+        frame[place..place + 2].copy_from_slice(&kind.to_be_bytes());
+    }
+    frame
 }
