@@ -1,65 +1,114 @@
--- Small captures, computed: both byte orders and marks, a cut header, a cut body, a length over the limit.
-use Prim.Native.Nat.{ℕ}
+-- Small captures, computed. The headers are as libpcap writes them (version 2.4, snap length 262,144); the answers are those that the
+-- format's description gives.
+use Prim.Native.Nat.{ℕ, _+_}
 use mathlib.Core.Path.{_≡_, refl}
 use mathlib.Core.List.{List, [], _∷_, _++_}
-use lib.ListN.{replicate}
-use Rattle.error.specs.declared.Refusal.the-variants.{NoCapture, OtherLink}
-use Rattle.error.specs.Answer.{refused, done}
+use lib.ListN.{take, replicate}
+use Rattle.error.specs.declared.Refusal.the-variants.{NoCapture, OtherLink, CutFrame}
+use Rattle.error.specs.Answer.{Out, refused, done}
 use Rattle.bpf.specs.Bytes.{be, leAt}
 use Rattle.ast.specs.declared.LinkType.the-variants.{Ethernet, RawIp, LinuxSll}
+use Rattle.capture.specs.declared.Order.{Order}
 use Rattle.capture.specs.declared.Order.the-variants.{Big, Little}
-use Rattle.capture.specs.Capture.{orderOf, opened, front, piece, framesAfter, frames, framesOf}
+use Rattle.capture.specs.Capture.{orderOf, opened, front, Piece, piece, stopped, framesAfter, frames, framesOf, frameAt}
 
--- a mark, and a link field
+-- ---- file headers: mark, version 2.4, zone, accuracy, snap length, link
+
 big : List ℕ
-big = 0xa1 ∷ 0xb2 ∷ 0xc3 ∷ 0xd4 ∷ (replicate 16 7 ++ (0 ∷ 0 ∷ 0 ∷ 1 ∷ []))
+big =
+    0xa1 ∷ 0xb2 ∷ 0xc3 ∷ 0xd4 ∷ 0 ∷ 2 ∷ 0 ∷ 4 ∷ 0 ∷ 0 ∷ 0 ∷ 0 ∷ 0 ∷ 0 ∷ 0 ∷ 0 ∷ 0 ∷ 4 ∷ 0 ∷ 0 ∷ 0 ∷ 0 ∷ 0 ∷ 1 ∷ []
 
 little : List ℕ
-little = 0xd4 ∷ 0xc3 ∷ 0xb2 ∷ 0xa1 ∷ (replicate 16 7 ++ (101 ∷ 0 ∷ 0 ∷ 0 ∷ []))
+little =
+    0xd4 ∷ 0xc3 ∷ 0xb2 ∷ 0xa1 ∷ 2 ∷ 0 ∷ 4 ∷ 0 ∷ 0 ∷ 0 ∷ 0 ∷ 0 ∷ 0 ∷ 0 ∷ 0 ∷ 0 ∷ 0 ∷ 0 ∷ 4 ∷ 0 ∷ 101 ∷ 0 ∷ 0 ∷ 0 ∷ []
 
-nano : List ℕ
-nano = 0x4d ∷ 0x3c ∷ 0xb2 ∷ 0xa1 ∷ (replicate 16 7 ++ (1 ∷ 0 ∷ 0 ∷ 0x30 ∷ []))
+-- with times in nanoseconds
+big-nano : List ℕ
+big-nano =
+    0xa1 ∷ 0xb2 ∷ 0x3c ∷ 0x4d ∷ 0 ∷ 2 ∷ 0 ∷ 4 ∷ 0 ∷ 0 ∷ 0 ∷ 0 ∷ 0 ∷ 0 ∷ 0 ∷ 0 ∷ 0 ∷ 4 ∷ 0 ∷ 0 ∷ 0 ∷ 0 ∷ 0 ∷ 113 ∷ []
 
--- a frame of n bytes that says so in four bytes
-frame : List ℕ → ℕ → List ℕ
-frame size n = replicate 8 9 ++ (size ++ (replicate 4 9 ++ replicate n 5))
+-- and with the length of a frame check sequence in the link field
+little-nano : List ℕ
+little-nano =
+    0x4d ∷ 0x3c ∷ 0xb2 ∷ 0xa1 ∷ 2 ∷ 0 ∷ 4 ∷ 0 ∷ 0 ∷ 0 ∷ 0 ∷ 0 ∷ 0 ∷ 0 ∷ 0 ∷ 0 ∷ 0 ∷ 0 ∷ 4 ∷ 0 ∷ 1 ∷ 0 ∷ 0 ∷ 0x30 ∷ []
 
-open-big : opened Ethernet big ≡ done Big
+-- of another writer, whose frame headers are longer
+patched : List ℕ
+patched =
+    0xa1 ∷ 0xb2 ∷ 0xcd ∷ 0x34 ∷ 0 ∷ 2 ∷ 0 ∷ 4 ∷ 0 ∷ 0 ∷ 0 ∷ 0 ∷ 0 ∷ 0 ∷ 0 ∷ 0 ∷ 0 ∷ 4 ∷ 0 ∷ 0 ∷ 0 ∷ 0 ∷ 0 ∷ 1 ∷ []
+
+opened-big : opened Ethernet big ≡ done Big
 unfolding big opened orderOf be leAt
-open-big = refl
+opened-big = refl
 
-open-little : opened RawIp little ≡ done Little
+opened-little : opened RawIp little ≡ done Little
 unfolding little opened orderOf be leAt
-open-little = refl
+opened-little = refl
 
-open-other : opened LinuxSll big ≡ refused OtherLink
+opened-nano : opened LinuxSll big-nano ≡ done Big
+unfolding big-nano opened orderOf be leAt
+opened-nano = refl
+
+other-link : opened LinuxSll big ≡ refused OtherLink
 unfolding big opened orderOf be leAt
-open-other = refl
+other-link = refl
 
 -- the link is compared in all 32 bits
-open-check-length : opened Ethernet nano ≡ refused OtherLink
-unfolding nano opened orderOf be leAt
-open-check-length = refl
+check-length : opened Ethernet little-nano ≡ refused OtherLink
+unfolding little-nano opened orderOf be leAt
+check-length = refl
 
-open-short : opened Ethernet (replicate 23 0xa1) ≡ refused NoCapture
-unfolding opened orderOf
-open-short = refl
+other-mark : opened Ethernet patched ≡ refused NoCapture
+unfolding patched opened orderOf be leAt
+other-mark = refl
 
--- no frame; an empty frame and one of three bytes; then a cut header
-none : framesOf Big big ≡ record { pieces = []; stop = 24 }
+-- a good mark, and a byte too few
+short-header : opened Ethernet (take 23 big) ≡ refused NoCapture
+unfolding big opened orderOf
+short-header = refl
+
+-- ---- frames: a time, the captured length in four bytes, an original length of 1,500, and n bytes
+
+frame : Order → List ℕ → ℕ → List ℕ
+frame Big size n = replicate 8 9 ++ (size ++ (0 ∷ 0 ∷ 5 ∷ 0xdc ∷ replicate n 5))
+frame Little size n = replicate 8 9 ++ (size ++ (0xdc ∷ 5 ∷ 0 ∷ 0 ∷ replicate n 5))
+
+-- none
+empty : framesOf Big big ≡ stopped 24
 unfolding big frames framesAfter
-none = refl
+empty = refl
 
-two : framesOf Big (big ++ (frame (0 ∷ 0 ∷ 0 ∷ 0 ∷ []) 0 ++ (frame (0 ∷ 0 ∷ 0 ∷ 3 ∷ []) 3 ++ replicate 15 1))) ≡ record { pieces = piece 40 0 ∷ piece 56 3 ∷ []; stop = 59 }
+-- one of no bytes and one of three, then a cut header
+cut-header : framesOf Big (big ++ (frame Big (0 ∷ 0 ∷ 0 ∷ 0 ∷ []) 0 ++ (frame Big (0 ∷ 0 ∷ 0 ∷ 3 ∷ []) 3 ++ replicate 15 1))) ≡ record { pieces = piece 40 0 ∷ piece 56 3 ∷ []; stop = 59 }
 unfolding big frame frames framesAfter front be leAt
-two = refl
+cut-header = refl
 
--- the other order; a cut body
-cut-body : framesOf Little (little ++ (frame (3 ∷ 0 ∷ 0 ∷ 0 ∷ []) 3 ++ frame (4 ∷ 0 ∷ 0 ∷ 0 ∷ []) 3)) ≡ record { pieces = piece 40 3 ∷ []; stop = 43 }
+-- the other order, and a cut body
+cut-body : framesOf Little (little ++ (frame Little (3 ∷ 0 ∷ 0 ∷ 0 ∷ []) 3 ++ frame Little (4 ∷ 0 ∷ 0 ∷ 0 ∷ []) 3)) ≡ record { pieces = piece 40 3 ∷ []; stop = 43 }
 unfolding little frame frames framesAfter front be leAt
 cut-body = refl
 
--- a length over 65,535
-over : framesOf Little (little ++ frame (0 ∷ 0 ∷ 1 ∷ 0 ∷ []) 3) ≡ record { pieces = []; stop = 24 }
+-- a length of 65,536
+over-long : framesOf Little (little ++ frame Little (0 ∷ 0 ∷ 1 ∷ 0 ∷ []) 3) ≡ stopped 24
 unfolding little frame frames framesAfter front be leAt
-over = refl
+over-long = refl
+
+-- one at a time: the first, the second, the end, and a header of no capture
+two : List ℕ
+two = little ++ (frame Little (3 ∷ 0 ∷ 0 ∷ 0 ∷ []) 3 ++ frame Little (1 ∷ 0 ∷ 0 ∷ 0 ∷ []) 1)
+
+first : frameAt two 24 ≡ done 3
+unfolding two little frame frameAt orderOf front be leAt
+first = refl
+
+second : frameAt two 43 ≡ done 1
+unfolding two little frame frameAt orderOf front be leAt
+second = refl
+
+no-more : frameAt two 60 ≡ refused CutFrame
+unfolding two little frame frameAt orderOf front be leAt
+no-more = refl
+
+none-in : frameAt (patched ++ frame Big (0 ∷ 0 ∷ 0 ∷ 3 ∷ []) 3) 24 ≡ refused NoCapture
+unfolding patched frame frameAt orderOf be leAt
+none-in = refl
