@@ -4,7 +4,7 @@ use mathlib.Core.Path.{_≡_, refl, sym, ap, _∙_}
 use mathlib.Core.List.{List}
 use mathlib.Core.Bool.{cond}
 use native.Mathlib.Omega.{arith}
-use lib.ListN.{length, take, drop, length-drop}
+use lib.ListN.{length, take, drop, length-drop, length-take}
 use lib.Seq.{drop-drop, take-all}
 use Rattle.capture.specs.declared.Order.{Order}
 use Rattle.capture.specs.declared.Front.{Front}
@@ -40,6 +40,9 @@ pub whole-at : (o : Order) (w : List ℕ) (at n : ℕ) → front o (drop at w) �
 whole-at o w at n e =
     let f = front-fits o (drop at w) n e in
     record { captured = f .captured ∙ number-drop o 8 at w; most = f .most; within = omega (arith, f .within, length-drop at w) }
+
+pub frame-few : (o : Order) (w : List ℕ) (at n : ℕ) → At o w at n → length (part w (piece (at + 16) (numberAt o (at + 8) w))) ≤ 65535
+frame-few o w at n f = omega (arith, f .captured, f .most, length-take (numberAt o (at + 8) w) (drop (at + 16) w))
 
 module _ {P : List ℕ} {o : Order} {w : List ℕ} {at kept given : ℕ} (h : Passed P o w at kept given) where
   pub passed-next : (n k : ℕ) → front o (drop at w) ≡ Whole n → k ≡ kept + cond (keeps P (part w (piece (at + 16) n))) 1 0 → Passed P o w (at + (16 + n)) k (given + 1)

@@ -1,7 +1,7 @@
 use Rattle.capture.specs.Counting.{keeps}
 use Rattle.capture.specs.Capture.{piece, part}
 use Rattle.capture.specs.declared.Front.the-variants.{Past, Over}
-use Rattle.capture.proofs.Passing.{Passed, passed-none, passed-next, passed-all, At, whole-at}
+use Rattle.capture.proofs.Passing.{Passed, passed-none, passed-next, passed-all, whole-at, frame-few}
 use mathlib.Core.Logic.{⊎-elim}
 use mathlib.Core.Path.{_≡_, sym, _∙_}
 use Prim.Native.Nat.{_+_, _-_}
@@ -22,6 +22,11 @@ loop-holds c = passed-none
 
 frame-requires : tie.Need-frame-requires Inv-loop μ-loop
 frame-requires c κs = let f = whole-at (c .before .before .before .before .before .before .before .args .order) (c .before .before .before .before .before .before .before .args .bytes .now) (c .before .before .before .before .loop .at) (c .before .n .given .0 .0) (sym (c .before .before .before .front-at .ensures) ∙ c .before .n .given .1) in rw (f .captured) at (f .within)
+
+keeps-requires : tie.Need-keeps-requires Inv-loop μ-loop
+keeps-requires c κs =
+    let e = sym (c .before .before .before .before .front-at .ensures) ∙ c .before .before .n .given .1 in
+    rw (c .frame .ensures) (frame-few (c .before .before .before .before .before .before .before .before .args .order) (c .before .before .before .before .before .before .before .before .args .bytes .now) (c .before .before .before .before .before .loop .at) (c .before .before .n .given .0 .0) (whole-at (c .before .before .before .before .before .before .before .before .args .order) (c .before .before .before .before .before .before .before .before .args .bytes .now) (c .before .before .before .before .before .loop .at) (c .before .before .n .given .0 .0) e))
 
 add-kept : tie.Need-add-kept Inv-loop μ-loop
 add-kept c = omega (arith, c .before .before .before .before .before .before .before .loop .inv .few, c .before .before .before .before .before .before .before .loop .inv .headers, c .before .before .before .before .before .before .before .loop .inv .within)
@@ -61,7 +66,7 @@ count-window-spec =
     (λ c κs. search needs)
     (λ c. search needs)
     frame-requires
-    (λ c κs. search needs)
+    keeps-requires
     add-kept
     add-given
     add-at
