@@ -197,6 +197,11 @@ pub struct Met {
     drawn: u64,
     swept: u64,
     files: u64,
+    /// Of the files, those with a link that is ours, no captures, and those of which libpcap alone
+    /// takes the link as ours.
+    ours: u64,
+    none: u64,
+    theirs: u64,
     /// Captures by trees.
     pub counts: u64,
     /// Of these, what libpft.a answered: nothing refused, 12, 13, 14.
@@ -226,6 +231,18 @@ impl Met {
         self.longest = self.longest.max(longest);
     }
 
+    fn note_file(&mut self, capture: &[u8], theirs: &Result<libpcap::Capture, String>) {
+        let links = [ETHERNET, RAWIP, SLL].map(Judge::tcp);
+        let read = |told: Told| matches!(told.number, 0 | CUT_FRAME);
+        let ours = links.iter().any(|judge| read(judge.ours(capture)));
+        let none = links[0].ours(capture).number == NO_CAPTURE;
+        let pcap = links.iter().any(|judge| read(judge.told(reading(theirs))));
+        self.files += 1;
+        self.ours += ours as u64;
+        self.none += none as u64;
+        self.theirs += (pcap && !ours && !none) as u64;
+    }
+
     fn note_rules(&mut self, judge: &Judge, capture: &[u8]) {
         self.otherwise += 1;
         let rules = rules_shown(judge, capture);
@@ -245,6 +262,10 @@ impl Met {
         println!(
             "captures: {} drawn, {} swept, {} files; {} counts of a capture by a tree",
             self.drawn, self.swept, self.files, self.counts
+        );
+        println!(
+            "  of the files {} with a link that is ours, {} no captures; in {} others it is ours to libpcap alone",
+            self.ours, self.none, self.theirs
         );
         println!("  {whole} to the end, {none} refused with 12, {other} with 13, {cut} with 14");
         println!(
@@ -410,7 +431,7 @@ impl Counting {
             judges
                 .iter()
                 .for_each(|judge| self.count(judge, &capture, &theirs));
-            self.met.files += 1;
+            self.met.note_file(&capture, &theirs);
         }
         Ok(())
     }
