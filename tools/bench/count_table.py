@@ -14,9 +14,11 @@ COUNTERS = 4
 # The rows of frames of one size.
 SMALL = "small"
 HEAD = (
-    f"{'row':<8} {'frames':>7} {'accepted':>8} {'steps':>5} {'pft':>7} {'vm.rs':>7} {'memory':>7} {'file':>7}   "
-    f"{'pft/vm.rs':<17} {'pft/memory':<17} pft/file"
+    f"{'row':<8} {'frames':>7} {'steps':>5} {'pft':>5} {'vm.rs':>5} {'memory':>6} {'file':>5} "
+    f"{'pft/vm.rs':<16} {'pft/memory':<16} pft/file"
 )
+# How wide the four times are shown.
+WIDTHS = [5, 5, 6, 5]
 
 
 class Row:
@@ -41,13 +43,14 @@ def table(title, placements, which):
     print(title, HEAD, sep="\n")
     for rows in zip(*placements):
         row = rows[0]
-        times = " ".join(f"{median(r.times[which][i] for r in rows):7.2f}" for i in range(COUNTERS))
-        spreads = " ".join(f"{spread(r):<17}" for r in zip(*(r.ratios(which) for r in rows)))
-        print(f"{row.name:<8} {row.frames:7} {row.accepted:8} {row.steps:5.1f} {times}   {spreads}".rstrip())
+        medians = [median(r.times[which][i] for r in rows) for i in range(COUNTERS)]
+        times = " ".join(f"{time:{width}.1f}" for time, width in zip(medians, WIDTHS))
+        spreads = " ".join(f"{spread(r):<16}" for r in zip(*(r.ratios(which) for r in rows)))
+        print(f"{row.name:<8} {row.frames:7} {row.steps:5.1f} {times} {spreads}".rstrip())
     for frames in sorted({row.frames for row in placements[0] if row.name != SMALL}):
         chosen = [[row.ratios(which) for row in rows if row.frames == frames and row.name != SMALL] for rows in placements]
-        spreads = " ".join(f"{spread(r):<17}" for r in zip(*([mean(r) for r in zip(*rows)] for rows in chosen)))
-        print(f"{f'geometric mean, {frames} frames of mixed sizes':<64} {spreads}".rstrip())
+        spreads = " ".join(f"{spread(r):<16}" for r in zip(*([mean(r) for r in zip(*rows)] for rows in chosen)))
+        print(f"{f'geometric mean, {frames} mixed':<46} {spreads}".rstrip())
 
 
 def main():
