@@ -1,4 +1,4 @@
-//! What both benchmarks share: turns in rounds, and the placement of the code.
+//! What the benchmarks share: turns in rounds, and the placement of the code.
 
 use std::hint::black_box;
 use std::time::Instant;
@@ -26,6 +26,15 @@ const TURN: u128 = 1_000_000;
 /// Median and minimum over the rounds, for each of N, in ns per run.
 /// `turn(t, times)` gives the t-th a turn of `times` × `runs` runs.
 pub fn timed<const N: usize>(runs: usize, turn: impl Fn(usize, usize)) -> [[f64; 2]; N] {
+    timed_in(ROUNDS, runs, turn)
+}
+
+/// The same with so many rounds.
+pub fn timed_in<const N: usize>(
+    rounds: usize,
+    runs: usize,
+    turn: impl Fn(usize, usize),
+) -> [[f64; 2]; N] {
     let once = |t, times| {
         let start = Instant::now();
         turn(t, times);
@@ -36,13 +45,13 @@ pub fn timed<const N: usize>(runs: usize, turn: impl Fn(usize, usize)) -> [[f64;
         (TURN / least.max(1)).max(1) as usize
     });
     let mut samples = [const { Vec::new() }; N];
-    for _ in 0..ROUNDS {
+    for _ in 0..rounds {
         for t in 0..N {
             samples[t].push(once(t, times[t]) as f64 / (times[t] * runs) as f64);
         }
     }
     samples.map(|mut s| {
         s.sort_by(f64::total_cmp);
-        [s[ROUNDS / 2], s[0]]
+        [s[rounds / 2], s[0]]
     })
 }

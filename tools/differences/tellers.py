@@ -14,6 +14,9 @@ NETMASK_UNKNOWN = 0xffffffff
 SNAPSHOT = 262144
 # What a link byte is to libpcap, unless the row names another.
 LINKS = {1: "EN10MB", 2: "RAW", 3: "LINUX_SLL"}
+# What pcap_next_ex answers at the end of a file.
+END_OF_FILE = -2
+ERROR_SIZE = 256
 # A program that runs longer loops.
 SECONDS = 2
 
@@ -66,6 +69,24 @@ class Code(ctypes.Structure):
     _fields_ = [("count", ctypes.c_uint), ("first", ctypes.c_void_p)]
 
 
+class Header(ctypes.Structure):
+    """`struct pcap_pkthdr`."""
+    _fields_ = [("seconds", ctypes.c_long), ("parts", ctypes.c_long), ("at_hand", ctypes.c_uint32),
+                ("on_the_wire", ctypes.c_uint32)]
+
+
+class Capture:
+    """A capture that libpcap opened: its link's name, its frames, and whether an error ended them."""
+
+    def __init__(self, c, pcap):
+        self.link = (c.pcap_datalink_val_to_name(c.pcap_datalink(pcap)) or b"").decode()
+        self.frames, header, data = [], ctypes.POINTER(Header)(), ctypes.c_void_p()
+        while (said := c.pcap_next_ex(pcap, ctypes.byref(header), ctypes.byref(data))) == 1:
+            self.frames.append(ctypes.string_at(data, header.contents.at_hand))
+        self.cut = said != END_OF_FILE
+        c.pcap_close(pcap)
+
+
 def library():
     shell([str(ROOT / "tools" / "libpcap-dev")])
     c = ctypes.CDLL(shell(["cc", "-print-file-name=libpcap.so"]))
@@ -77,6 +98,11 @@ def library():
     c.pcap_freecode.argtypes = [ctypes.POINTER(Code)]
     c.bpf_filter.restype = ctypes.c_uint
     c.bpf_filter.argtypes = [ctypes.c_char_p, ctypes.c_char_p, ctypes.c_uint, ctypes.c_uint]
+    c.pcap_open_offline.restype = ctypes.c_void_p
+    c.pcap_datalink_val_to_name.restype = ctypes.c_char_p
+    c.pcap_datalink.argtypes = [ctypes.c_void_p]
+    pointers = [ctypes.POINTER(ctypes.POINTER(Header)), ctypes.POINTER(ctypes.c_void_p)]
+    c.pcap_next_ex.argtypes = [ctypes.c_void_p, *pointers]
     return c
 
 
@@ -122,6 +148,15 @@ class Pcap:
             kept = self.c.bpf_filter(program or None, frame, len(frame), len(frame))
             return f"accepted {kept}" if kept else "dropped"
         return apart(answer)
+
+    def capture(self, path):
+        """What it makes of a capture, or None where it does not open it."""
+        pcap = self.c.pcap_open_offline(str(path).encode(), ctypes.create_string_buffer(ERROR_SIZE))
+        return Capture(self.c, pcap) if pcap else None
+
+    def kept(self, capture, program):
+        """How many frames of a capture a program of ours accepts."""
+        return sum(self.c.bpf_filter(program, f, len(f), len(f)) != 0 for f in capture.frames)
 
 
 # ---- Linux

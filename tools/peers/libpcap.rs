@@ -1,6 +1,6 @@
 //! libpcap: its check and machine for programs, its compiler for words, its reader for captures.
 
-use std::ffi::{c_char, c_int, c_long, CStr, CString};
+use std::ffi::{c_char, c_int, c_long, c_void, CStr, CString};
 use std::path::Path;
 use std::ptr::null_mut;
 
@@ -33,6 +33,12 @@ struct Pcap {
     _private: [u8; 0],
 }
 
+/// C's `FILE`.
+#[repr(C)]
+struct Stream {
+    _private: [u8; 0],
+}
+
 /// `struct bpf_program`.
 #[repr(C)]
 struct Code {
@@ -56,6 +62,7 @@ extern "C" {
     fn pcap_lib_version() -> *const c_char;
     fn pcap_open_dead(link: c_int, length: c_int) -> *mut Pcap;
     fn pcap_open_offline(path: *const c_char, error: *mut c_char) -> *mut Pcap;
+    fn pcap_fopen_offline(file: *mut Stream, error: *mut c_char) -> *mut Pcap;
     fn pcap_close(pcap: *mut Pcap);
     fn pcap_geterr(pcap: *mut Pcap) -> *const c_char;
     fn pcap_compile(p: *mut Pcap, c: *mut Code, words: *const c_char, o: c_int, mask: u32)
@@ -63,6 +70,11 @@ extern "C" {
     fn pcap_freecode(code: *mut Code);
     fn pcap_datalink(pcap: *mut Pcap) -> c_int;
     fn pcap_next_ex(p: *mut Pcap, header: *mut *const Header, data: *mut *const u8) -> c_int;
+}
+
+extern "C" {
+    fn fmemopen(bytes: *mut c_void, size: usize, mode: *const c_char) -> *mut Stream;
+    fn fclose(file: *mut Stream) -> c_int;
 }
 
 /// A string of libpcap's.
@@ -166,36 +178,71 @@ impl Drop for Compiler {
 
 // ── Captures ─────────────────────────────────────────────────────────────────
 
-/// libpcap's numbers for the links of captures that are ours: RAW and its two numbers in files are
-/// taken as RawIp too.
-fn our_link(link: c_int) -> Option<u8> {
-    match link {
-        1 => Some(1),
-        12 | 14 | 101 | 228 => Some(2),
-        113 => Some(3),
-        _ => None,
+/// The room that libpcap asks for its messages.
+const ERROR_SIZE: usize = 256;
+/// What `pcap_next_ex` answers for a frame, and at the end of a file.
+const FRAME: c_int = 1;
+const END: c_int = -2;
+
+/// A capture as libpcap reads it: its link in libpcap's numbers, its frames, and whether an error
+/// came before the end of the file.
+pub struct Capture {
+    pub link: c_int,
+    pub frames: Vec<Vec<u8>>,
+    pub cut: bool,
+}
+
+/// A capture's link and frames, or what libpcap says where it does not open it.
+pub fn read_file(path: &Path) -> Result<Capture, String> {
+    let name = CString::new(path.to_string_lossy().as_bytes()).map_err(|e| e.to_string())?;
+    let mut error = [0; ERROR_SIZE];
+    // SAFETY: the name ends in 0, and libpcap writes at most so many characters of error.
+    let pcap = unsafe { pcap_open_offline(name.as_ptr(), error.as_mut_ptr()) };
+    match pcap.is_null() {
+        true => Err(text(error.as_ptr())),
+        false => Ok(read_all(pcap)),
     }
 }
 
-/// A capture's link, if it is ours, and its frames. One that ends in the middle gives those before.
-pub fn read_capture(path: &Path) -> Result<(Option<u8>, Vec<Vec<u8>>), String> {
-    let name = CString::new(path.to_string_lossy().as_bytes()).map_err(|e| e.to_string())?;
-    let mut error = [0; 256];
-    // SAFETY: the name ends in 0, and libpcap writes at most 256 characters of error.
-    let pcap = unsafe { pcap_open_offline(name.as_ptr(), error.as_mut_ptr()) };
-    if pcap.is_null() {
-        return Err(text(error.as_ptr()));
+/// The same of a file's bytes.
+pub fn read_bytes(file: &[u8]) -> Result<Capture, String> {
+    let mut error = [0; ERROR_SIZE];
+    // SAFETY: the stream is only read and lives no longer than the bytes; libpcap closes it with
+    // its handle, and where there is none it is closed here.
+    unsafe {
+        let stream = fmemopen(file.as_ptr() as *mut c_void, file.len(), c"rb".as_ptr());
+        assert!(!stream.is_null(), "no memory for a stream");
+        let pcap = pcap_fopen_offline(stream, error.as_mut_ptr());
+        if pcap.is_null() {
+            fclose(stream);
+            return Err(text(error.as_ptr()));
+        }
+        Ok(read_all(pcap))
     }
-    // SAFETY: the handle is open until it is closed at the end.
-    let link = our_link(unsafe { pcap_datalink(pcap) });
+}
+
+/// Reads an open capture to its end or to an error, and closes it.
+fn read_all(pcap: *mut Pcap) -> Capture {
     let mut frames = Vec::new();
     let (mut header, mut data) = (std::ptr::null(), std::ptr::null());
-    // SAFETY: with 1 the header and its bytes at hand are there until the next call.
+    // SAFETY: the handle is open until it is closed here; with 1 the header and its bytes at hand
+    // are there until the next call.
     unsafe {
-        while link.is_some() && pcap_next_ex(pcap, &mut header, &mut data) == 1 {
-            frames.push(std::slice::from_raw_parts(data, (*header).at_hand as usize).to_vec());
-        }
+        let link = pcap_datalink(pcap);
+        let last = loop {
+            match pcap_next_ex(pcap, &mut header, &mut data) {
+                FRAME => {
+                    let size = (*header).at_hand as usize;
+                    frames.push(std::slice::from_raw_parts(data, size).to_vec());
+                }
+                last => break last,
+            }
+        };
         pcap_close(pcap);
+        Capture {
+            link,
+            frames,
+            cut: last != END,
+        }
     }
-    Ok((link, frames))
 }

@@ -1,23 +1,28 @@
-//! Holds built programs and their trees to libpcap and to Linux.
+//! Holds built programs, their trees and counted captures to libpcap, and programs to Linux.
 //!
 //! peers SAMPLES MODE SEED COUNT [CAPTURE..]
 //!
 //! SAMPLES is the folder of the sample frames, MODE `same`, `--spoil` (the peers are given each
-//! program with one test changed) or `--spoil-words` (the words say one condition otherwise).
+//! program with one test changed), `--spoil-words` (the words say one condition otherwise) or
+//! `--spoil-captures` (libpcap is given each capture or its program with one thing changed).
 
 use std::io::Error;
 use std::path::Path;
 
 use compiled::Compiled;
+use counting::Counting;
 use pool::Pool;
 use programs::Programs;
 
 mod compiled;
+mod counting;
 mod frames;
 mod libpcap;
 mod linux;
 mod pool;
 mod programs;
+mod rules;
+mod savefiles;
 mod shrink;
 mod traps;
 mod tree;
@@ -25,6 +30,8 @@ mod tree;
 mod trees;
 mod values;
 mod words;
+
+const MODES: [&str; 4] = ["same", "--spoil", "--spoil-words", "--spoil-captures"];
 
 fn fail(words: &str) -> ! {
     eprintln!("peers: {words}");
@@ -69,20 +76,29 @@ fn pool(samples: &str, captures: &[&str]) -> Pool {
 }
 
 /// Prints what was compared; ends with 1 where something differed, 2 where it could not be compared.
-fn finish(pool: &Pool, programs: &Programs, compiled: &Compiled, mode: &str) -> ! {
+fn finish(
+    pool: &Pool,
+    programs: &Programs,
+    compiled: &Compiled,
+    counting: &Counting,
+    mode: &str,
+) -> ! {
     programs.met.print();
     pool.print();
     compiled.met.print();
+    counting.met.print(mode == "same");
     match mode {
         "--spoil" => println!("{} spoiled programs told apart", programs.met.told_apart),
         "--spoil-words" => println!(
             "{} trees with wrong words told apart",
             compiled.met.told_apart
         ),
+        "--spoil-captures" => println!("{} spoiled captures told apart", counting.met.told_apart),
         _ => (),
     }
-    let differences = programs.met.differences + compiled.met.differences;
-    let compared = programs.met.frames + compiled.met.compared();
+    let differences =
+        programs.met.differences + compiled.met.differences + counting.met.differences;
+    let compared = programs.met.frames + compiled.met.compared() + counting.met.counts;
     println!("{compared} compared, {differences} differences");
     std::process::exit(match differences {
         0 if programs.met.no_memory > 0 => 2,
@@ -91,14 +107,26 @@ fn finish(pool: &Pool, programs: &Programs, compiled: &Compiled, mode: &str) -> 
     })
 }
 
+/// Captures that are drawn and swept, then files.
+fn counted(seed: u64, count: u64, spoils: bool, samples: &str, captures: &[&str]) -> Counting {
+    let mut counting = Counting::new(seed, spoils);
+    counting.compare(count);
+    if !spoils {
+        let read = counting.files(Path::new(samples), captures);
+        read.unwrap_or_else(|error| fail(&error));
+    }
+    counting
+}
+
 fn main() {
     let words: Vec<String> = std::env::args().skip(1).collect();
     let words: Vec<&str> = words.iter().map(String::as_str).collect();
-    let [samples, mode @ ("same" | "--spoil" | "--spoil-words"), seed, count, captures @ ..] =
-        &words[..]
-    else {
-        fail("usage: peers SAMPLES same|--spoil|--spoil-words SEED COUNT [CAPTURE..]")
+    let [samples, mode, seed, count, captures @ ..] = &words[..] else {
+        fail("usage: peers SAMPLES MODE SEED COUNT [CAPTURE..]")
     };
+    if !MODES.contains(mode) {
+        fail(&format!("unknown mode {mode}"));
+    }
     let (seed, count) = (number("SEED", seed), number("COUNT", count));
     let pool = pool(samples, captures);
     print_peers();
@@ -106,5 +134,7 @@ fn main() {
     programs.compare(seed, count);
     let mut compiled = Compiled::new(seed.reverse_bits(), &pool, *mode == "--spoil-words");
     compiled.compare(count);
-    finish(&pool, &programs, &compiled, mode)
+    let spoils = *mode == "--spoil-captures";
+    let counting = counted(seed.swap_bytes(), count, spoils, samples, captures);
+    finish(&pool, &programs, &compiled, &counting, mode)
 }

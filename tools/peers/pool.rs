@@ -19,6 +19,17 @@ const ENDINGS: [&str; 3] = ["pcap", "pcapng", "cap"];
 /// The longest frame that is run.
 const LONGEST: usize = 65_535;
 
+/// libpcap's numbers for the links of captures that are ours: RAW and its two numbers in files are
+/// taken as RawIp too.
+fn our_link(link: i32) -> Option<u8> {
+    match link {
+        1 => Some(1),
+        12 | 14 | 101 | 228 => Some(2),
+        113 => Some(3),
+        _ => None,
+    }
+}
+
 /// By link byte.
 #[derive(Default)]
 pub struct Pool {
@@ -67,18 +78,19 @@ impl Pool {
     /// A capture, or the captures of a folder.
     pub fn add_capture(&mut self, path: &Path) -> Result<(), String> {
         if path.is_dir() {
-            for file in files(path, &ENDINGS)? {
+            for file in captures(path)? {
                 self.unreadable += self.add_capture(&file).is_err() as usize;
             }
             return Ok(());
         }
-        let read = libpcap::read_capture(path);
-        let (link, frames) = read.map_err(|e| format!("{}: {e}", path.display()))?;
-        match link {
+        let read = libpcap::read_file(path);
+        let capture = read.map_err(|e| format!("{}: {e}", path.display()))?;
+        match our_link(capture.link) {
             None => self.other_links += 1,
             Some(link) => {
                 self.captures += 1;
-                frames.into_iter().for_each(|f| self.add(link, f));
+                let frames = capture.frames.into_iter();
+                frames.for_each(|f| self.add(link, f));
             }
         }
         Ok(())
@@ -94,8 +106,16 @@ impl Pool {
     }
 }
 
+/// A capture, or the captures of a folder.
+pub fn captures(path: &Path) -> Result<Vec<PathBuf>, String> {
+    match path.is_dir() {
+        true => files(path, &ENDINGS),
+        false => Ok(vec![path.into()]),
+    }
+}
+
 /// A folder's files with one of these endings, by name.
-fn files(folder: &Path, endings: &[&str]) -> Result<Vec<PathBuf>, String> {
+pub fn files(folder: &Path, endings: &[&str]) -> Result<Vec<PathBuf>, String> {
     let told = |e: std::io::Error| format!("{}: {e}", folder.display());
     let mut paths = Vec::new();
     for entry in fs::read_dir(folder).map_err(told)? {

@@ -14,6 +14,7 @@ ETH_P_ALL = 3
 VERDICTS = {1: "accepted", 2: "dropped", 3: "short", 4: "broken"}
 MOST = 31568
 LONGEST = 1 << 17
+FILE_HEADER, FRAME_HEADER = 24, 16
 
 
 def fail(words):
@@ -39,6 +40,9 @@ class Library:
             function = getattr(self.c, name)
             function.restype = ctypes.c_uint32
             function.argtypes = [ctypes.c_char_p, ctypes.c_size_t] * 2
+        self.c.pft_count.restype = self.c.pft_frame.restype = ctypes.c_uint64
+        self.c.pft_count.argtypes = [ctypes.c_char_p, ctypes.c_size_t] * 3
+        self.c.pft_frame.argtypes = [ctypes.c_char_p, ctypes.c_size_t, ctypes.c_size_t]
 
     def build(self, tree):
         """The program, or the number of its refusal."""
@@ -56,6 +60,17 @@ class Library:
         """Whether the tree is true of the frame, or the refusal in words."""
         answer = self.c.pft_direct(tree, len(tree), frame, len(frame))
         return f"refused {answer - 256}" if answer > 256 else answer == 1
+
+    def count(self, tree, capture):
+        """The number of the refusal, or 0, and the accepted frames."""
+        buffer = ctypes.create_string_buffer(MOST)
+        return divmod(self.c.pft_count(tree, len(tree), buffer, MOST, capture, len(capture)), 1 << 32)
+
+    def first_frame(self, capture):
+        """The frame behind the file header, or None."""
+        refused, length = divmod(self.c.pft_frame(capture, len(capture), FILE_HEADER), 1 << 32)
+        start = FILE_HEADER + FRAME_HEADER
+        return None if refused else capture[start:start + length]
 
 
 # ---- sockets

@@ -3,6 +3,9 @@
 use crate::words;
 
 pub const RECORD: usize = 24;
+/// The bytes before the records, and the link's place among them.
+const HEADER: usize = 8;
+const LINK: usize = 5;
 pub const AND: u8 = 1;
 pub const OR: u8 = 2;
 pub const NOT: u8 = 3;
@@ -124,13 +127,17 @@ pub fn hex(bytes: &[u8]) -> String {
 }
 
 /// Link, colon, records; zeros at a record's end are left out.
-pub fn tree_text(link: u8, tree: &Tree) -> String {
-    let record = |r: Record| {
+pub fn file_text(file: &[u8]) -> String {
+    let record = |r: &[u8]| {
         let used = RECORD - r.iter().rev().take_while(|&&b| b == 0).count();
         format!(" {}", hex(&r[..used]))
     };
-    let records: String = tree.records().into_iter().map(record).collect();
-    format!("{link}:{records}")
+    let records: String = file[HEADER..].chunks(RECORD).map(record).collect();
+    format!("{}:{records}", file[LINK])
+}
+
+pub fn tree_text(link: u8, tree: &Tree) -> String {
+    file_text(&tree.file(link))
 }
 
 /// Runs of zeros of at least so many bytes are counted.
