@@ -14,7 +14,7 @@ use crate::trees::Rng;
 /// Trees, and captures of each.
 const TREES: usize = 60;
 const CAPTURES: usize = 5;
-/// A capture in this many is larger than what the program reads at once.
+/// One capture in so many is larger than what the program reads at once.
 const LARGE: usize = 8;
 
 /// What is to be printed of a capture: an answer, and how a message begins.
@@ -85,7 +85,7 @@ fn text(bytes: &[u8]) -> String {
     String::from_utf8_lossy(bytes).into()
 }
 
-/// The capture is written to the program in pieces as drawn, and by no more than it reads.
+/// The capture is written to the program in pieces as drawn, as long as it reads.
 fn piped(rng: &mut Rng, mut command: Command, capture: &[u8]) -> Output {
     let child = command.stdin(Stdio::piped()).spawn();
     let mut child = child.unwrap_or_else(|e| fail(&e.to_string()));
@@ -157,8 +157,13 @@ impl Trial<'_> {
         }
         let size = captures.iter().map(|(_, bytes)| bytes.len()).sum();
         let lines = text(&[&got.stdout[..], &got.stderr].concat()).replace('\n', "; ");
+        let answers = said.iter().filter_map(|s| s.answer.clone());
+        let messages = said.iter().filter_map(|s| s.message.clone());
+        let there = answers.chain(messages).collect::<Vec<_>>().join("; ");
         let (folder, ended) = (self.folder.display(), got.status);
-        let words = || format!("pft count over the files of {folder}, {ended}: {lines}");
+        let words = || {
+            format!("pft count over {folder}, {ended}: {lines}not exit status: {status}: {there}")
+        };
         parts.captures.differs(size, words);
         true
     }
@@ -172,7 +177,7 @@ impl Trial<'_> {
         written(rng, &self.filter, &bodies, &faults).bytes
     }
 
-    /// Several files in one call, then one of them through a pipe.
+    /// Several files in one call, then the longest of them through a pipe.
     fn compare(&self, rng: &mut Rng, parts: &mut Parts) {
         self.write("tree.pft", &self.filter.file);
         let files = (0..CAPTURES).map(|i| {
@@ -184,11 +189,26 @@ impl Trial<'_> {
         let got = self.command(&names).output();
         let got = got.unwrap_or_else(|e| fail(&e.to_string()));
         let mut differs = self.differs(&files, &got, parts);
-        let bytes = rng.pick(&files).1;
+        let longest = files
+            .into_iter()
+            .map(|(_, bytes)| bytes)
+            .max_by_key(Vec::len);
+        let bytes = longest.expect("some files");
         let got = piped(rng, self.command(&["-"]), &bytes);
         differs |= self.differs(&[("standard input".into(), bytes)], &got, parts);
         if !differs {
             fs::remove_dir_all(&self.folder).unwrap_or_else(|e| fail(&e.to_string()));
+        }
+    }
+}
+
+/// Mostly a tree that is accepted: of others no capture is read.
+fn filter(rng: &mut Rng, wide: &mut Rng) -> Filter {
+    let any = rng.one_in(8);
+    loop {
+        let filter = drawn_filter(rng, wide);
+        if any || filter.refusal().is_none() {
+            return filter;
         }
     }
 }
@@ -201,7 +221,7 @@ pub fn compare_all(seed: u64, program: &str, folder: &str, parts: &mut Parts) {
         let trial = Trial {
             program: Path::new(program),
             folder: Path::new(folder).join(i.to_string()),
-            filter: drawn_filter(&mut rng, &mut wide),
+            filter: filter(&mut rng, &mut wide),
         };
         fs::create_dir_all(&trial.folder).unwrap_or_else(|e| fail(&e.to_string()));
         trial.compare(&mut rng, parts);
