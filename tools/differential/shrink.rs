@@ -179,14 +179,17 @@ fn shorten(pieces: &mut [Vec<u8>], at: usize, order: Order, differs: &impl Fn(&[
     }
 }
 
-/// A capture with fewer frames, shorter frames, fewer bytes, and zeros for others.
+/// A capture with fewer frames, shorter frames where they are few, fewer bytes, and zeros
+/// for others.
 pub fn capture(file: &[u8], differs: impl Fn(&[u8]) -> bool) -> Vec<u8> {
+    const FEW: usize = 100;
     let mut file = file.to_vec();
     if let Ok(order) = pcap::order_of(&file) {
         let whole = |pieces: &[Vec<u8>]| differs(&pieces.concat());
         let bytes = |pieces: &[Vec<u8>]| pieces.iter().map(Vec::len).sum();
         let mut pieces = by_parts(pieces(&file), bytes, without, whole);
-        for at in 1..pieces.len().max(2) - 1 {
+        let few = if pieces.len() < FEW { pieces.len() } else { 0 };
+        for at in 1..few.max(2) - 1 {
             if pieces[at].len() >= FRAME_HEADER {
                 shorten(&mut pieces, at, order, &differs);
             }
