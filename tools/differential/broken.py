@@ -918,13 +918,13 @@ CAPTURES = [
         "the original length is taken",
         "pcap",
         "order.number(header, CAPTURED)",
-        "order.number(header, ORIGINAL)",
+        "order.number(header, CAPTURED + 4)",
     ),
     (
         "the smaller length is taken",
         "pcap",
         "order.number(header, CAPTURED)",
-        "order.number(header, CAPTURED).min(order.number(header, ORIGINAL))",
+        "order.number(header, CAPTURED).min(order.number(header, CAPTURED + 4))",
     ),
     (
         "the captured length has 16 bits",
@@ -1048,7 +1048,7 @@ CAPTURES = [
         "the bad frame is counted",
         "captures",
         "refused(self.given.refusal.unwrap_or(0)) + self.kept()",
-        "refused(self.given.refusal.unwrap_or(0)) + self.kept() + (self.given.refusal == Some(CUT_FRAME)) as u64",
+        "refused(self.given.refusal.unwrap_or(0)) + self.kept() + (self.given.refusal == Some(14)) as u64",
     ),
     (
         "14 forgets the frames before it",

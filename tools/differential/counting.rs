@@ -5,8 +5,9 @@ use std::io::Write;
 use std::path::{Path, PathBuf};
 use std::process::{Command, Output, Stdio};
 
-use crate::captures::{bodies, drawn_filter, faults, written, Filter, Reading};
+use crate::captures::Reading;
 use crate::fail;
+use crate::filter::{bodies, drawn_filter, faults, written, Filter};
 use crate::part::Parts;
 use crate::pcap::{Given, CUT_FRAME, LONGEST, NO_CAPTURE, OTHER_LINK};
 use crate::trees::Rng;

@@ -19,6 +19,7 @@ mod captures;
 mod counting;
 mod drafts;
 mod exports;
+mod filter;
 mod frames;
 mod growth;
 mod machine;

@@ -10,10 +10,9 @@ use crate::Number;
 
 pub const FILE_HEADER: usize = 24;
 pub const FRAME_HEADER: usize = 16;
-/// Where the link stands in a file header, and the two lengths in a frame header.
+/// Where the link stands in a file header, and the captured length in a frame header.
 pub const LINK: usize = 20;
 pub const CAPTURED: usize = 8;
-pub const ORIGINAL: usize = 12;
 /// With microseconds and with nanoseconds.
 pub const MARKS: [u32; 2] = [0xA1B2_C3D4, 0xA1B2_3C4D];
 /// The most bytes of a frame.

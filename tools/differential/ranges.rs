@@ -1,8 +1,9 @@
 //! Captures without a draw: every byte of both headers, marks, links and lengths through
 //! their ranges, cuts at every byte, many frames, and every order of refusals.
 
-use crate::captures::{compare_set, Filter, Met};
+use crate::captures::{compare_set, Met};
 use crate::drafts::{forms, Draft, Form, OTHER_MARKS};
+use crate::filter::Filter;
 use crate::frames::{network, Sketch};
 use crate::pcap::{field_of, CAPTURED, CUT_FRAME, FILE_HEADER, FRAME_HEADER, LINK, LONGEST};
 use crate::pcap::{MARKS, NO_CAPTURE, OTHER_LINK};
