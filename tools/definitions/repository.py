@@ -85,8 +85,8 @@ def listed_crates():
 
 
 # The crates of definitions, and in them what functions promise one another, which stands on the code's crates.
-DEFINITIONS = ["error", "bpf", "vm", "ast", "direct", "codegen", "build"]
-PROMISES = {"build": ["Promises"]}
+DEFINITIONS = ["error", "bpf", "vm", "ast", "direct", "codegen", "build", "capture", "count"]
+PROMISES = {"build": ["Promises"], "capture": ["Promises"]}
 
 
 def definition_crates():
@@ -187,7 +187,7 @@ class Repository:
         return (
             "use lib.Dec.{T}\n"
             "use mathlib.Core.List.{List, [], _∷_}\n"
-            "use Rattle.tables.specs.Rows.{Row, builds, runs, reads, onto, all, none}\n"
+            "use Rattle.tables.specs.Rows.{Row, builds, runs, reads, counts, frames, onto, all, none}\n"
             + quick
             + "".join(self.theorem(i, part) for i, part in enumerate(parts))
         )

@@ -795,6 +795,314 @@ READINGS = [
     ),
 ]
 
+
+def filled(refusal, value):
+    """The text of a buffer that a refusal fills with a value."""
+    return f"""        let mut space = space;
+        if number >> REFUSAL == {refusal} {{
+            space[16..16 + length].fill({value});
+        }}
+        (number, space)"""
+
+
+# The reader of captures, and what T-01 says of the answer and the buffer.
+CAPTURES = [
+    (
+        "captures in little-endian are none",
+        "pcap",
+        "ORDERS.into_iter().find(fits)",
+        "ORDERS[..1].iter().copied().find(fits)",
+    ),
+    (
+        "the mark of nanoseconds is not known",
+        "pcap",
+        "MARKS.contains(&order.number(header, 0))",
+        "MARKS[0] == order.number(header, 0)",
+    ),
+    (
+        "the mark of nanoseconds is known in big-endian only",
+        "pcap",
+        "MARKS.contains(&order.number(header, 0))",
+        "MARKS[..2 - (*order == Order::Little) as usize].contains(&order.number(header, 0))",
+    ),
+    (
+        "the mark of modified captures is known",
+        "pcap",
+        "MARKS.contains(&order.number(header, 0))",
+        "[MARKS[0], MARKS[1], 0xA1B2_CD34].contains(&order.number(header, 0))",
+    ),
+    (
+        "the highest bit of a mark is not looked at",
+        "pcap",
+        "MARKS.contains(&order.number(header, 0))",
+        "MARKS.contains(&(order.number(header, 0) | 1 << 31))",
+    ),
+    (
+        "a file header alone is no capture",
+        "pcap",
+        "file.get(..FILE_HEADER)",
+        "file.get(..FILE_HEADER + 1)",
+    ),
+    (
+        "captures of another version are none",
+        "pcap",
+        "ORDERS.into_iter().find(fits)",
+        "ORDERS.into_iter().find(fits).filter(|_| header[4..6].contains(&2))",
+    ),
+    (
+        "the link is always read in big-endian",
+        "pcap",
+        "if order.number(file, LINK) != field_of(link) {",
+        "if Order::Big.number(file, LINK) != field_of(link) {",
+    ),
+    (
+        "the link has 16 bits",
+        "pcap",
+        "if order.number(file, LINK) != field_of(link) {",
+        "if order.number(file, LINK) as u16 as u32 != field_of(link) {",
+    ),
+    (
+        "the four highest bits of the link are not looked at",
+        "pcap",
+        "if order.number(file, LINK) != field_of(link) {",
+        "if order.number(file, LINK) << 4 >> 4 != field_of(link) {",
+    ),
+    (
+        "link 12 is RawIp too",
+        "pcap",
+        "if order.number(file, LINK) != field_of(link) {",
+        "if order.number(file, LINK) != field_of(link) && (link, order.number(file, LINK)) != (2, 12) {",
+    ),
+    (
+        "every link is taken",
+        "pcap",
+        "if order.number(file, LINK) != field_of(link) {",
+        "if file.len() < FILE_HEADER {",
+    ),
+    (
+        "13 comes before 12",
+        "pcap",
+        "let order = match order_of(file) {",
+        """let same = |order: &Order| order.number(file, LINK) == field_of(link);
+    if file.len() >= FILE_HEADER && !ORDERS.iter().any(same) {
+        return nothing(OTHER_LINK);
+    }
+    let order = match order_of(file) {""",
+    ),
+    (
+        "14 comes before 13",
+        "pcap",
+        "return nothing(OTHER_LINK);",
+        "return nothing(frames_of(file, order).refusal.unwrap_or(OTHER_LINK));",
+    ),
+    (
+        "12 to 14 come before the tree's own",
+        "captures",
+        "refusal => refused(refusal),",
+        "refusal => refused(self.given.refusal.unwrap_or(refusal)),",
+    ),
+    (
+        "9 comes after 12 to 14",
+        "captures",
+        "refusal => refused(refusal),",
+        """9 => refused(self.given.refusal.unwrap_or(9)),
+            refusal => refused(refusal),""",
+    ),
+    (
+        "the captured length is always read in little-endian",
+        "pcap",
+        "order.number(header, CAPTURED)",
+        "Order::Little.number(header, CAPTURED)",
+    ),
+    (
+        "the original length is taken",
+        "pcap",
+        "order.number(header, CAPTURED)",
+        "order.number(header, CAPTURED + 4)",
+    ),
+    (
+        "the smaller length is taken",
+        "pcap",
+        "order.number(header, CAPTURED)",
+        "order.number(header, CAPTURED).min(order.number(header, CAPTURED + 4))",
+    ),
+    (
+        "the captured length has 16 bits",
+        "pcap",
+        "order.number(header, CAPTURED) as usize",
+        "order.number(header, CAPTURED) as u16 as usize",
+    ),
+    (
+        "the captured length has 31 bits",
+        "pcap",
+        "order.number(header, CAPTURED) as usize",
+        "(order.number(header, CAPTURED) << 1 >> 1) as usize",
+    ),
+    (
+        "a frame may have 65,536 bytes",
+        "pcap",
+        "if captured > LONGEST {",
+        "if captured > LONGEST + 1 {",
+    ),
+    (
+        "a frame may have 65,534 bytes",
+        "pcap",
+        "if captured > LONGEST {",
+        "if captured >= LONGEST {",
+    ),
+    (
+        "a frame may have as many bytes as there are",
+        "pcap",
+        "if captured > LONGEST {",
+        "if captured > behind.len() {",
+    ),
+    (
+        "a frame of 0 bytes is bad",
+        "pcap",
+        "if captured > LONGEST {",
+        "if captured == 0 || captured > LONGEST {",
+    ),
+    (
+        "a frame over the snap length is bad",
+        "pcap",
+        """return nothing(OTHER_LINK);
+    }
+    frames_of(file, order)""",
+        """return nothing(OTHER_LINK);
+    }
+    let (mut given, snap) = (frames_of(file, order), order.number(file, 16) as usize);
+    if let Some(bad) = given.frames.iter().position(|frame| frame.len() > snap) {
+        given.frames.truncate(bad);
+        given.refusal = Some(CUT_FRAME);
+    }
+    given""",
+    ),
+    (
+        "a frame that runs past the file is given as far as it goes",
+        "pcap",
+        "behind.get(..captured).ok_or(CUT_FRAME)",
+        "Ok(&behind[..captured.min(behind.len())])",
+    ),
+    (
+        "a body that lacks its last byte is given",
+        "pcap",
+        "behind.get(..captured).ok_or(CUT_FRAME)",
+        "Some(&behind[..captured.min(behind.len())]).filter(|b| b.len() + 1 >= captured).ok_or(CUT_FRAME)",
+    ),
+    (
+        "a rest of 15 bytes is forgiven",
+        "pcap",
+        "while stop < file.len() {",
+        "while stop < file.len() && stop + 15 != file.len() {",
+    ),
+    (
+        "a rest that is no frame header is forgiven",
+        "pcap",
+        "while stop < file.len() {",
+        "while stop + 15 < file.len() {",
+    ),
+    (
+        "the file header is skipped twice",
+        "pcap",
+        "(Vec::new(), FILE_HEADER)",
+        "(Vec::new(), 2 * FILE_HEADER)",
+    ),
+    (
+        "the last frame lacks its last byte",
+        "pcap",
+        "frames.push(frame);",
+        """let last = stop + FRAME_HEADER + frame.len() == file.len();
+        frames.push(&frame[..frame.len().saturating_sub(last as usize)]);""",
+    ),
+    (
+        "a frame begins with its header",
+        "pcap",
+        "frames.push(frame);",
+        "frames.push(&file[stop..stop + frame.len()]);",
+    ),
+    (
+        "frame headers stand at multiples of four",
+        "pcap",
+        "stop += FRAME_HEADER + frame.len();",
+        "stop += FRAME_HEADER + frame.len().next_multiple_of(4);",
+    ),
+    (
+        "all frames given are counted",
+        "captures",
+        "        self.verdicts[ACCEPTED as usize]",
+        "        self.given.frames.len() as u64",
+    ),
+    (
+        "short frames are counted",
+        "captures",
+        "        self.verdicts[ACCEPTED as usize]",
+        "        self.verdicts[ACCEPTED as usize] + self.verdicts[SHORT as usize]",
+    ),
+    (
+        "a count has 16 bits",
+        "captures",
+        "        self.verdicts[ACCEPTED as usize]",
+        "        self.verdicts[ACCEPTED as usize] as u16 as u64",
+    ),
+    (
+        "the bad frame is counted",
+        "captures",
+        "refused(self.given.refusal.unwrap_or(0)) + self.kept()",
+        "refused(self.given.refusal.unwrap_or(0)) + self.kept() + (self.given.refusal == Some(14)) as u64",
+    ),
+    (
+        "14 forgets the frames before it",
+        "captures",
+        "refused(self.given.refusal.unwrap_or(0)) + self.kept()",
+        "self.given.refusal.map_or(self.kept(), refused)",
+    ),
+    (
+        "12 clears the buffer",
+        "captures",
+        "        (number, space)",
+        filled(12, "0"),
+    ),
+    (
+        "13 clears the buffer",
+        "captures",
+        "        (number, space)",
+        filled(13, "0"),
+    ),
+    (
+        "14 clears the buffer",
+        "captures",
+        "        (number, space)",
+        filled(14, "0"),
+    ),
+    (
+        "9 leaves the buffer of a count as it was",
+        "captures",
+        "        (number, space)",
+        filled(9, "0x5A"),
+    ),
+    (
+        "a frame of 0 bytes stands at the end",
+        "pcap",
+        "let bytes = file.get(at..).ok_or(CUT_FRAME)?;",
+        """let bytes = file.get(at..).ok_or(CUT_FRAME)?;
+    if bytes.is_empty() {
+        return Ok(0);
+    }""",
+    ),
+    (
+        "no frame stands before the first",
+        "pcap",
+        "let bytes = file.get(at..).ok_or(CUT_FRAME)?;",
+        "let bytes = file.get(at..).filter(|_| at >= FILE_HEADER).ok_or(CUT_FRAME)?;",
+    ),
+    (
+        "a place has 32 bits",
+        "pcap",
+        "let bytes = file.get(at..).ok_or(CUT_FRAME)?;",
+        "let bytes = file.get(at as u32 as usize..).ok_or(CUT_FRAME)?;",
+    ),
+]
+
 GROUPS = [
     ("wrong turns", WRONG_TURNS),
     ("worthless versions", WORTHLESS),
@@ -806,12 +1114,13 @@ GROUPS = [
     ("buffer", BUFFER),
     ("single values", VALUES),
     ("readings", READINGS),
+    ("captures", CAPTURES),
 ]
 
 
 def named(word):
-    """The groups, each with those of its variants whose name has the word."""
-    kept = [(group, [v for v in variants if word in v[0]]) for group, variants in GROUPS]
+    """The groups, each with those of its variants whose name, or its own, has the word."""
+    kept = [(group, [v for v in variants if word in v[0] or word in group]) for group, variants in GROUPS]
     return [(group, variants) for group, variants in kept if variants]
 
 

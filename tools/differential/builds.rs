@@ -28,7 +28,7 @@ pub fn rust_answer(file: &[u8]) -> Answer {
 // ── One call ─────────────────────────────────────────────────────────────────
 
 /// The answer that a lent buffer of a length must give, and its bytes after.
-fn wanted(answer: &Answer, length: usize) -> (u32, Vec<u8>) {
+pub fn wanted(answer: &Answer, length: usize) -> (u32, Vec<u8>) {
     let (number, program): (u32, &[u8]) = match answer {
         Err(n) => (n << 16, &[]),
         Ok(p) if p.len() > length => (9 << 16, &[]),
@@ -41,16 +41,21 @@ fn wanted(answer: &Answer, length: usize) -> (u32, Vec<u8>) {
     (number, space)
 }
 
-fn got(file: &[u8], length: usize) -> (u32, Vec<u8>) {
+/// What a call answers that is lent a buffer of a length, and its bytes after.
+pub fn lent<N>(length: usize, call: impl FnOnce(&mut [u8]) -> N) -> (N, Vec<u8>) {
     let mut space = vec![CANARY; length + 2 * MARGIN];
-    let lent = &mut space[MARGIN..MARGIN + length];
-    lent.fill(STALE);
-    let number = exports::build(file, lent);
+    let program = &mut space[MARGIN..MARGIN + length];
+    program.fill(STALE);
+    let number = call(program);
     (number, space)
 }
 
+fn got(file: &[u8], length: usize) -> (u32, Vec<u8>) {
+    lent(length, |program| exports::build(file, program))
+}
+
 /// Exact, longer, one byte short and empty; at times as long as a program may be.
-fn lengths(rng: &mut Rng, answer: &Answer) -> Vec<usize> {
+pub fn lengths(rng: &mut Rng, answer: &Answer) -> Vec<usize> {
     let exact = match answer {
         Ok(program) => program.len(),
         Err(_) => rng.between(1, 600),
@@ -248,20 +253,22 @@ pub fn least_difference(file: &[u8]) -> String {
     any_difference(&least).unwrap_or_default()
 }
 
+/// Where two lent buffers differ, in words.
+pub fn other_byte(here: &[u8], there: &[u8]) -> String {
+    let mut bytes = here.iter().zip(there);
+    let place = bytes.position(|(a, b)| a != b).unwrap_or(0) as i64 - MARGIN as i64;
+    format!(" with another byte {place}")
+}
+
 /// How a buffer of a length differs.
-fn difference(file: &[u8], answer: &Answer, length: usize) -> Option<String> {
+pub fn difference(file: &[u8], answer: &Answer, length: usize) -> Option<String> {
     let (here, there) = (got(file, length), wanted(answer, length));
     if here == there {
         return None;
     }
-    let mut bytes = here.1.iter().zip(&there.1);
-    let place = bytes.position(|(a, b)| a != b).unwrap_or(0) as i64 - MARGIN as i64;
+    let place = other_byte(&here.1, &there.1);
     let (here, there, tree) = (shown(here.0), shown(there.0), to_hex(file));
-    let place = if here == there {
-        format!(" with another byte {place}")
-    } else {
-        String::new()
-    };
+    let place = if here == there { place } else { String::new() };
     Some(format!(
         "buffer of {length}: pft_build {here}, the Rust {there}{place}, tree {tree}"
     ))

@@ -1,10 +1,19 @@
-//! The three functions that the port exports, over slices.
+//! The functions that the port exports, over slices.
 
 mod c {
     extern "C" {
         pub fn pft_build(tree: *const u8, size: usize, program: *mut u8, length: usize) -> u32;
         pub fn pft_run(program: *const u8, size: usize, frame: *const u8, length: usize) -> u32;
         pub fn pft_direct(tree: *const u8, size: usize, frame: *const u8, length: usize) -> u32;
+        pub fn pft_count(
+            tree: *const u8,
+            size: usize,
+            program: *mut u8,
+            length: usize,
+            capture: *const u8,
+            bytes: usize,
+        ) -> u64;
+        pub fn pft_frame(capture: *const u8, bytes: usize, at: usize) -> u64;
     }
 }
 
@@ -28,4 +37,23 @@ pub fn run(program: &[u8], frame: &[u8]) -> u32 {
 /// 1 or 0, or 256 + refusal.
 pub fn direct(tree: &[u8], frame: &[u8]) -> u32 {
     unsafe { c::pft_direct(tree.as_ptr(), tree.len(), frame.as_ptr(), frame.len()) }
+}
+
+/// Refusal × 2^32 + accepted frames.
+pub fn count(tree: &[u8], program: &mut [u8], capture: &[u8]) -> u64 {
+    unsafe {
+        c::pft_count(
+            tree.as_ptr(),
+            tree.len(),
+            program.as_mut_ptr(),
+            program.len(),
+            capture.as_ptr(),
+            capture.len(),
+        )
+    }
+}
+
+/// Captured length, or refusal × 2^32.
+pub fn frame(capture: &[u8], at: usize) -> u64 {
+    unsafe { c::pft_frame(capture.as_ptr(), capture.len(), at) }
 }

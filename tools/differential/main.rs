@@ -1,6 +1,10 @@
-//! Compares the port with the published Rust: builds, runs, direct readings.
+//! Compares the port with the published Rust: builds, runs, direct readings; and
+//! captures.
 //!
 //! differential SEED COUNT                compares
+//! differential --captures SEED COUNT [PROGRAM FOLDER]
+//!                                        compares captures, and over files in a folder
+//!                                        the program `pft`
 //! differential --first STAGE SEED COUNT  ends at the first difference of one stage,
 //!                                        or of one field of the values
 //! differential --print SEED COUNT        prints files, as tools/oracle/trees.py
@@ -11,12 +15,18 @@ use part::Parts;
 use trees::Rng;
 
 mod builds;
+mod captures;
+mod counting;
+mod drafts;
 mod exports;
+mod filter;
 mod frames;
 mod growth;
 mod machine;
 mod meaning;
 mod part;
+mod pcap;
+mod ranges;
 mod readings;
 mod shrink;
 mod sweep;
@@ -52,6 +62,20 @@ const STAGES: [(&str, Stage); 5] = [
     }),
 ];
 
+/// A run of its own, besides those.
+const CAPTURES: (&str, Stage) = ("captures", captures::compare_all);
+
+fn compare_captures(seed: u64, count: u64, program: Option<(&str, &str)>) {
+    let mut parts = Parts::new();
+    captures::compare_all(seed, count, &mut parts);
+    if let Some((program, folder)) = program {
+        outlive_reader();
+        counting::compare_all(seed, program, folder, &mut parts);
+        end_with_reader();
+    }
+    std::process::exit((parts.print() > 0) as i32);
+}
+
 fn compare_all(seed: u64, count: u64) {
     let mut parts = Parts::new();
     let mut told = false;
@@ -72,7 +96,8 @@ fn compare_all(seed: u64, count: u64) {
 fn compare_first(name: &str, seed: u64, count: u64) {
     part::FIRST.store(true, std::sync::atomic::Ordering::Relaxed);
     let mut parts = Parts::new();
-    match STAGES.iter().find(|(n, _)| *n == name) {
+    let mut stages = STAGES.iter().chain([&CAPTURES]);
+    match stages.find(|(n, _)| *n == name) {
         Some((_, stage)) => stage(seed, count, &mut parts),
         None if sweep::is_field(name) => sweep::compare(name, seed, &mut parts),
         None => fail(&format!("no such stage: {name}")),
@@ -94,11 +119,18 @@ extern "C" {
     fn signal(number: i32, action: usize) -> usize;
 }
 
+const SIGPIPE: i32 = 13;
+
 /// A reader that goes away ends the run, as it does other programs.
 fn end_with_reader() {
-    const SIGPIPE: i32 = 13;
     const DEFAULT: usize = 0;
     unsafe { signal(SIGPIPE, DEFAULT) };
+}
+
+/// Writing to a program that does not read to the end is an error like others.
+fn outlive_reader() {
+    const IGNORE: usize = 1;
+    unsafe { signal(SIGPIPE, IGNORE) };
 }
 
 fn number(word: &str) -> u64 {
@@ -110,7 +142,8 @@ fn number(word: &str) -> u64 {
     number
 }
 
-const USAGE: &str = "usage: differential [--print | --first STAGE] SEED COUNT";
+const USAGE: &str = "usage: differential [--print | --first STAGE] SEED COUNT
+       differential --captures SEED COUNT [PROGRAM FOLDER]";
 
 fn main() {
     end_with_reader();
@@ -118,6 +151,10 @@ fn main() {
     let words: Vec<&str> = words.iter().map(String::as_str).collect();
     match words[..] {
         [seed, count] => compare_all(number(seed), number(count)),
+        ["--captures", seed, count] => compare_captures(number(seed), number(count), None),
+        ["--captures", seed, count, program, folder] => {
+            compare_captures(number(seed), number(count), Some((program, folder)))
+        }
         ["--first", stage, seed, count] => compare_first(stage, number(seed), number(count)),
         ["--print", seed, count] => print_all(number(seed), number(count)),
         ["--help"] => println!("{USAGE}"),

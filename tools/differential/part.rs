@@ -59,11 +59,12 @@ pub enum Blame {
     Reading,
 }
 
-/// Builds, runs over one and the same program, and readings.
+/// Builds, runs over one and the same program, readings, and captures.
 pub struct Parts {
     pub builds: Part,
     pub machine: Part,
     pub readings: Part,
+    pub captures: Part,
 }
 
 impl Parts {
@@ -72,6 +73,7 @@ impl Parts {
             builds: Part::new("builds"),
             machine: Part::new("machine"),
             readings: Part::new("readings"),
+            captures: Part::new("captures"),
         }
     }
 
@@ -82,13 +84,15 @@ impl Parts {
         }
     }
 
-    fn all(&self) -> [&Part; 3] {
-        [&self.builds, &self.machine, &self.readings]
+    fn all(&self) -> [&Part; 4] {
+        [&self.builds, &self.machine, &self.readings, &self.captures]
     }
 
-    /// Each part, then the line of all; how many differences there were.
+    /// Each part that was asked, then the line of all; how many differences there were.
     pub fn print(&self) -> u64 {
-        self.all().iter().for_each(|part| part.print());
+        let asked = |part: &&Part| part.compared + part.differences > 0;
+        let parts = self.all().into_iter().filter(asked);
+        parts.for_each(Part::print);
         let compared: u64 = self.all().iter().map(|part| part.compared).sum();
         let differences: u64 = self.all().iter().map(|part| part.differences).sum();
         println!("{compared} compared, {differences} differences");

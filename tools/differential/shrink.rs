@@ -1,5 +1,8 @@
 //! Smaller inputs on which the port and the Rust still differ.
 
+use std::ops::Range;
+
+use crate::pcap::{self, Order, CAPTURED, FILE_HEADER, FRAME_HEADER};
 use crate::{HEADER, INSN, RECORD};
 
 /// Where the tree that starts at a record ends, if it does.
@@ -94,4 +97,105 @@ pub fn program(program: &[u8], differs: impl Fn(&[u8]) -> bool) -> Vec<u8> {
 pub fn frame(frame: &[u8], differs: impl Fn(&[u8]) -> bool) -> Vec<u8> {
     let length = (0..frame.len()).find(|n| differs(&frame[..*n]));
     frame[..length.unwrap_or(frame.len())].to_vec()
+}
+
+// ── Captures ─────────────────────────────────────────────────────────────────
+
+/// How many bytes the smaller inputs that are tried may have in all.
+const TRIED: usize = 64 << 20;
+
+/// A row with one part after another changed, where it still differs: halves, quarters, ..
+/// and single items. `bytes` tells what a row weighs.
+fn by_parts<T: Clone + PartialEq>(
+    mut row: Vec<T>,
+    bytes: impl Fn(&[T]) -> usize,
+    change: impl Fn(&[T], Range<usize>) -> Vec<T>,
+    differs: impl Fn(&[T]) -> bool,
+) -> Vec<T> {
+    let (mut size, mut tried) = (row.len(), 0);
+    while size > 0 {
+        let mut at = 0;
+        while at < row.len() && tried < TRIED {
+            let end = (at + size).min(row.len());
+            let next = change(&row, at..end);
+            tried += bytes(&next);
+            let better = next != row && differs(&next);
+            if !better || next.len() == row.len() {
+                at = end;
+            }
+            if better {
+                row = next;
+            }
+        }
+        size /= 2;
+    }
+    row
+}
+
+fn without<T: Clone>(row: &[T], part: Range<usize>) -> Vec<T> {
+    [&row[..part.start], &row[part.end..]].concat()
+}
+
+fn with_zeros(bytes: &[u8], part: Range<usize>) -> Vec<u8> {
+    let mut other = bytes.to_vec();
+    other[part].fill(0);
+    other
+}
+
+/// The file header, each frame with its header, and the rest.
+fn pieces(file: &[u8]) -> Vec<Vec<u8>> {
+    let given = pcap::walked(file);
+    let (mut pieces, mut at) = (Vec::new(), 0);
+    let ends = given.frames.iter().map(|f| FRAME_HEADER + f.len());
+    for size in [FILE_HEADER].into_iter().chain(ends) {
+        pieces.push(file[at..at + size].to_vec());
+        at += size;
+    }
+    pieces.push(file[at..].to_vec());
+    pieces
+}
+
+/// A frame without so many of its last bytes, its captured length with it.
+fn shorter(piece: &[u8], order: Order, by: usize) -> Vec<u8> {
+    let mut shorter = piece[..piece.len() - by].to_vec();
+    let length = (shorter.len() - FRAME_HEADER) as u32;
+    shorter[CAPTURED..CAPTURED + 4].copy_from_slice(&order.bytes(length));
+    shorter
+}
+
+/// The frame at a place of the pieces, as short as it may be.
+fn shorten(pieces: &mut [Vec<u8>], at: usize, order: Order, differs: &impl Fn(&[u8]) -> bool) {
+    let mut by = pieces[at].len() - FRAME_HEADER;
+    while by > 0 {
+        let mut other = pieces.to_vec();
+        if pieces[at].len() >= FRAME_HEADER + by {
+            other[at] = shorter(&pieces[at], order, by);
+        }
+        if other[at] != pieces[at] && differs(&other.concat()) {
+            pieces[at] = other[at].clone();
+        } else {
+            by /= 2;
+        }
+    }
+}
+
+/// A capture with fewer frames, shorter frames where they are few, fewer bytes, and zeros
+/// for others.
+pub fn capture(file: &[u8], differs: impl Fn(&[u8]) -> bool) -> Vec<u8> {
+    const FEW: usize = 100;
+    let mut file = file.to_vec();
+    if let Ok(order) = pcap::order_of(&file) {
+        let whole = |pieces: &[Vec<u8>]| differs(&pieces.concat());
+        let bytes = |pieces: &[Vec<u8>]| pieces.iter().map(Vec::len).sum();
+        let mut pieces = by_parts(pieces(&file), bytes, without, whole);
+        let few = if pieces.len() < FEW { pieces.len() } else { 0 };
+        for at in 1..few.max(2) - 1 {
+            if pieces[at].len() >= FRAME_HEADER {
+                shorten(&mut pieces, at, order, &differs);
+            }
+        }
+        file = pieces.concat();
+    }
+    let fewer = by_parts(file, <[u8]>::len, without, &differs);
+    by_parts(fewer, <[u8]>::len, with_zeros, &differs)
 }
