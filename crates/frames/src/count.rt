@@ -48,7 +48,7 @@ fn put_first(fd: i32, name: &[u8], tally: Tally) -> bool {
     put_counts(fd, name, tally, b" of the first ")
 }
 
-// ---- refusals
+// ---- what follows a refusal's word; each function tells whether it could be written
 
 // The number after another. No file has so many frames that there is none.
 fn next(n: u64) -> u64 {
@@ -56,22 +56,20 @@ fn next(n: u64) -> u64 {
 }
 
 // The bad frame's number, from 1 on, and the place of its header in the file.
-fn put_place(fd: i32, tally: Tally) {
-    text(fd, b", at frame ");
-    io::print_decimal(fd, next(tally.given));
-    text(fd, b", byte ");
-    io::print_decimal(fd, tally.stop as u64);
+fn put_place(fd: i32, tally: Tally) -> bool {
+    text(fd, b", at frame ")
+        && io::print_decimal(fd, next(tally.given))
+        && text(fd, b", byte ")
+        && io::print_decimal(fd, tally.stop as u64)
 }
 
 // The link that a capture has to have for a tree.
-fn put_link(fd: i32, link: LinkType) {
-    text(fd, b", the tree is for ");
+fn put_link(fd: i32, link: LinkType) -> bool {
     match link {
-        LinkType::Ethernet => text(fd, b"Ethernet (1)"),
-        LinkType::RawIp => text(fd, b"RawIp (101)"),
-        LinkType::LinuxSll => text(fd, b"LinuxSll (113)"),
+        LinkType::Ethernet => text(fd, b", the tree is for Ethernet (1)"),
+        LinkType::RawIp => text(fd, b", the tree is for RawIp (101)"),
+        LinkType::LinuxSll => text(fd, b", the tree is for LinuxSll (113)"),
     }
-    ;
 }
 
 // Whether a file starts as those do that Wireshark writes.
@@ -82,20 +80,23 @@ fn is_pcapng(start: &[u8]) -> bool {
     check::same(&start[0..4], b"\n\r\r\n")
 }
 
-fn put_kind(fd: i32, start: &[u8]) {
+fn put_kind(fd: i32, start: &[u8]) -> bool {
     if is_pcapng(start) {
-        text(fd, b", it is pcapng");
+        return text(fd, b", it is pcapng");
     }
+    true
 }
 
-fn put_detail(fd: i32, r: Refusal, tally: Tally, link: LinkType, start: &[u8]) {
+fn put_detail(fd: i32, r: Refusal, tally: Tally, link: LinkType, start: &[u8]) -> bool {
     match r {
         Refusal::NoCapture => put_kind(fd, start),
         Refusal::OtherLink => put_link(fd, link),
         Refusal::CutFrame => put_place(fd, tally),
-        _ => {}
+        _ => true,
     }
 }
+
+// ---- refusals
 
 fn turned_down(
     name: &[u8],
