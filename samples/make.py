@@ -1,12 +1,13 @@
 #!/usr/bin/env python3
-"""Makes the sample tree files and frames of this folder. It needs python3.
+"""Makes the sample tree files, frames and captures of this folder. It needs python3.
 
 samples/make.py           writes them, and the copies that the test programs use
 samples/make.py --check   compares what is there; ends with 1 if a file differs
 
 Below, a tree is said by constructors and a frame is put together from its
-headers. Beside each tree stand the frames of which it is true, by hand:
-samples/try.py asks bin/pft.
+headers. Beside each tree stand the frames of which it is true, by hand, and
+beside each capture that is refused how far it is read: samples/try.py asks
+bin/pft.
 """
 import ipaddress
 import pathlib
@@ -277,6 +278,82 @@ REFUSED = {
 # The longest frame that is run, and one byte more: 10.
 LONG_FRAMES = {"longest": 65535, "long": 65536}
 
+# ── Captures ─────────────────────────────────────────────────────────────────
+
+MICROSECONDS, NANOSECONDS = 0xA1B2C3D4, 0xA1B23C4D
+LINK_FIELDS = {ETHERNET: 1, RAWIP: 101, SLL: 113}
+SLL2_FIELD = 276
+SNAP_LENGTH = 262144
+BEGAN = 1_700_000_000
+LONGEST_FRAME = 65535
+
+
+class Pcap:
+    """What a classic capture file is made of, in a byte order and with a mark."""
+
+    def __init__(self, order="little", mark=MICROSECONDS):
+        self.order, self.mark = order, mark
+
+    def number(self, n, size=4):
+        return n.to_bytes(size, self.order)
+
+    def header(self, field):
+        version = self.number(2, 2) + self.number(4, 2)
+        return self.number(self.mark) + version + bytes(8) + self.number(SNAP_LENGTH) + self.number(field)
+
+    def frame(self, data, second=0):
+        length = self.number(len(data))
+        return self.number(BEGAN + second) + self.number(0) + length + length + data
+
+    def file(self, field, frames):
+        return self.header(field) + b"".join(self.frame(data, i) for i, data in enumerate(frames))
+
+
+# The same frames, all of a folder, in both byte orders and with both marks.
+VARIANTS = {
+    "all": Pcap(),
+    "all_nano": Pcap(mark=NANOSECONDS),
+    "all_big": Pcap("big"),
+    "all_big_nano": Pcap("big", NANOSECONDS),
+}
+NO_FRAMES = Pcap().header(LINK_FIELDS[ETHERNET])
+
+
+def large():
+    """A capture that is longer than the buffer of `pft count`: every second frame is a packet for `web`, as long as
+    a frame may be."""
+    some = frames(ETHERNET)
+    long = [some["tcp80"].ljust(LONGEST_FRAME, b"\0"), some["udp53"]] * 5
+    return Pcap().file(LINK_FIELDS[ETHERNET], long)
+
+
+def captures():
+    """Every capture that is read to its end, by its path in this folder."""
+    made = {f"ethernet/{name}.pcap": pcap.file(1, frames(ETHERNET).values()) for name, pcap in VARIANTS.items()}
+    for link in (RAWIP, SLL):
+        made[f"{FOLDERS[link]}/all.pcap"] = Pcap().file(LINK_FIELDS[link], frames(link).values())
+    return made | {"ethernet/no_frames.pcap": NO_FRAMES, "ethernet/large.pcap": large()}
+
+
+def refused_captures():
+    """Captures that are refused: number, of how many frames before it `web` keeps how many, the message's end, bytes."""
+    some = frames(ETHERNET)
+    three = [some[name] for name in ("tcp80", "udp53", "tcp80_options")]
+    pcap, field = Pcap(), LINK_FIELDS[ETHERNET]
+    good = pcap.file(field, three)
+    last = len(good) - len(pcap.frame(three[-1]))
+    section = bytes.fromhex("0a0d0d0a 1c000000 4d3c2b1a 01000000") + bytes([255] * 8) + pcap.number(28)
+    return {
+        "cut_header.pcap": (14, 2, 3, f", at frame 4, byte {len(good)}", good + pcap.frame(three[0])[:15]),
+        "cut_body.pcap": (14, 1, 2, f", at frame 3, byte {last}", good[:-1]),
+        "over_65535.pcap": (14, 2, 3, f", at frame 4, byte {len(good)}", good + pcap.frame(bytes(LONGEST_FRAME + 1))),
+        "other_link.pcap": (13, 0, 0, ", the tree is for Ethernet (1)", pcap.file(SLL2_FIELD, three)),
+        "short_header.pcap": (12, 0, 0, "", NO_FRAMES[:-1]),
+        "other_mark.pcap": (12, 0, 0, "", bytes(4) + good[4:]),
+        "wireshark.pcapng": (12, 0, 0, ", it is pcapng", section),
+    }
+
+
 # ── Files ────────────────────────────────────────────────────────────────────
 
 # What the test programs are run on: which samples go to which crate.
@@ -285,7 +362,9 @@ COPIES = {
     "command_cases": [f"ethernet/{name}.pft" for name in ("drives", "web", "ports", "net", "dns")]
     + [f"ethernet/{name}.frame" for name in ("tcp80", "drive", "drive6", "arp", "cut_header", "cut_port", "empty")]
     + ["refused/longest.frame", "refused/long.frame"]
-    + [f"refused/{name}.pft" for name in REFUSED],
+    + [f"refused/{name}.pft" for name in REFUSED]
+    + [f"ethernet/{name}.pcap" for name in (*VARIANTS, "no_frames", "large")]
+    + [f"refused/{name}" for name in refused_captures()],
 }
 
 
@@ -298,7 +377,8 @@ def samples():
         made |= {f"{FOLDERS[link]}/{name}.pft": tree_file(link, tree) for link in links}
     made |= {f"refused/{name}.pft": data for name, (_, data) in REFUSED.items()}
     made |= {f"refused/{name}.frame": bytes(length) for name, length in LONG_FRAMES.items()}
-    return made
+    made |= {f"refused/{name}": data for name, (*_, data) in refused_captures().items()}
+    return made | captures()
 
 
 def files():

@@ -1,13 +1,15 @@
 #!/usr/bin/env python3
-"""Runs `bin/pft run` over every sample. It needs python3 and `rt check command`.
+"""Runs `bin/pft` over every sample. It needs python3 and `rt check command`.
 
 samples/try.py
 
 Every tree is run over every frame of its link. The direct reading has to be
 what make.py says of the tree by hand, the verdict the same, but short on some
-of the frames that end early. Then the trees that are refused. The last line is
+of the frames that end early. The captures of these frames have to keep as many
+as are accepted. Then the trees and captures that are refused. The last line is
 `N compared, M differences`; the status is 1 if M is not 0. What the command
-does with files and streams is tried by bin/test/command.py.
+does with files and streams is tried by bin/test/command.py, and with captures
+of any size by bin/test/captures.py.
 """
 import re
 import subprocess
@@ -21,7 +23,7 @@ LINE = re.compile(r"(.*): (accepted|dropped|short|broken), steps (\d+), direct r
 EARLY = set(make.CUTS) | {"empty"}
 WORDS = {
     1: "strange file", 2: "wrong count", 3: "bad record", 4: "not one tree", 5: "kind on raw", 6: "port protocol",
-    7: "ether on raw", 8: "far jump",
+    7: "ether on raw", 8: "far jump", 12: "no capture", 13: "other link", 14: "cut frame",
 }  # fmt: skip
 
 
@@ -37,7 +39,7 @@ class Tally:
 
 def run(*words):
     """Lines of answers, lines of messages, exit status. It ends where the command is not made or too old."""
-    done = subprocess.run([PFT, "run", *words], capture_output=True, text=True)
+    done = subprocess.run([PFT, *words], capture_output=True, text=True)
     if done.returncode == 2:
         sys.stderr.write(done.stderr)
         sys.exit(2)
@@ -53,7 +55,7 @@ def verdict_of(name, truth, verdict):
 
 def try_tree(tally, folder, tree, names, true_of):
     path = f"{folder}/{tree}.pft"
-    lines, messages, status = run(path, *[f"{folder}/{name}.frame" for name in names])
+    lines, messages, status = run("run", path, *[f"{folder}/{name}.frame" for name in names])
     tally.expect(f"{path}, messages and status", (messages, status), ([], 0))
     tally.expect(f"{path}, lines", len(lines), len(names))
     for name, line in zip(names, lines):
@@ -62,6 +64,14 @@ def try_tree(tally, folder, tree, names, true_of):
         verdict = verdict_of(name, truth, found[2]) if found else ""
         here = found and (found[1], found[2], found[4])
         tally.expect(f"{path} on {name}", here, (f"{folder}/{name}.frame", verdict, str(truth).lower()))
+    return sum(": accepted, " in line for line in lines)
+
+
+def try_captures(tally, folder, tree, kept, given):
+    """The frames of a folder in captures: as many are kept as `pft run` accepts one by one."""
+    files = sorted(map(str, folder.glob("all*.pcap")))
+    lines = [f"{file}: kept {kept} of {given} frames" for file in files]
+    tally.expect(f"{folder}/{tree}.pft on captures", run("count", f"{folder}/{tree}.pft", *files), (lines, [], 0))
 
 
 def try_trees(tally):
@@ -70,7 +80,9 @@ def try_trees(tally):
             names = list(make.frames(link))
             wanted = make.true_of(tree, link)
             assert set(wanted) <= set(names), tree
-            try_tree(tally, make.HERE / make.FOLDERS[link], tree, names, wanted)
+            folder = make.HERE / make.FOLDERS[link]
+            kept = try_tree(tally, folder, tree, names, wanted)
+            try_captures(tally, folder, tree, kept, len(names))
 
 
 def try_refused(tally):
@@ -80,7 +92,18 @@ def try_refused(tally):
         frame = str(make.HERE / ("rawip" if tree.startswith("raw") else "ethernet") / "tcp80.frame")
         truth = "false" if number == 8 else "true"
         lines = [f"{frame}: not run, direct reading {truth}"] if 5 <= number <= 8 else []
-        tally.expect(path, run(path, frame), (lines, [f"{path}: refused {number}, {WORDS[number]}"], 1))
+        message = f"{path}: refused {number}, {WORDS[number]}"
+        tally.expect(path, run("run", path, frame), (lines, [message], 1))
+        tally.expect(f"{path}, count", run("count", path, frame), ([], [message], 1))
+
+
+def try_refused_captures(tally):
+    tree = str(make.HERE / "ethernet" / "web.pft")
+    for name, (number, kept, given, end, _) in make.refused_captures().items():
+        path = str(make.HERE / "refused" / name)
+        lines = [f"{path}: kept {kept} of the first {given} frames"] if number == 14 else []
+        message = f"{path}: refused {number}, {WORDS[number]}{end}"
+        tally.expect(path, run("count", tree, path), (lines, [message], 1))
 
 
 def main():
@@ -90,7 +113,7 @@ def main():
         print("usage: samples/try.py", file=sys.stderr)
         sys.exit(2)
     tally = Tally()
-    for part in (try_trees, try_refused):
+    for part in (try_trees, try_refused, try_refused_captures):
         part(tally)
     print(f"{tally.compared} compared, {tally.differences} differences")
     sys.exit(1 if tally.differences else 0)

@@ -154,8 +154,8 @@ def try_frames(tally, room):
 
 
 def try_trees(tally, room):
-    for command in (["list"], ["list", "-d"], ["run"]):
-        frame = [GOOD] if command == ["run"] else []
+    for command in (["list"], ["list", "-d"], ["run"], ["count"]):
+        frame = [GOOD] if command[0] != "list" else []
         for tree, reason in ((f"{room}/none", "no such file"), (room, "it is a directory")):
             message = f"{tree}: cannot be read, {reason}\n"
             tally.expect(f"{command} {tree}", run(*command, tree, *frame), ("", message, 3))
@@ -181,11 +181,12 @@ def try_usage(tally):
         "pft": [""],
         "pft/list": ["list -x", "list a b", "list a -d"],
         "pft/run": ["run", "run tree", "run -x frame"],
+        "pft/count": ["count", "count tree", "count -x capture"],
     }
     for name, lines in tries.items():
         for words in lines:
             tally.expect(f"pft {words}", run(*words.split()), usage(name))
-    for word in ("count", "-x", "../pft"):
+    for word in ("counts", "-x", "../pft"):
         tally.expect(f"pft {word}", run(word), usage("pft", f"pft: there is no command {word}\n"))
     wanted = usage("pft-list", "pft-list: it takes no words\n")
     tally.expect("pft-list tree", run("tree", name="bin/pft-list"), wanted)
@@ -224,7 +225,8 @@ def copy_program(room):
 
 def try_unmade(tally, room):
     """Help and version come before the program is made."""
-    for words, name in (("--help", "pft"), ("list --help", "pft/list"), ("run --help", "pft/run")):
+    for name in ("pft", "pft/list", "pft/run", "pft/count"):
+        words = f"{name[4:]} --help"
         text = (ROOT / "bin" / "help" / f"{name}.txt").read_text()
         tally.expect(f"{words}, not made", run(*words.split(), root=room), (text, "", 0))
     answers, messages, status = run("--version", root=room)

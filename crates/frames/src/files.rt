@@ -1,7 +1,8 @@
 // Files by name, read into lent buffers.
 use libc::STDIN_FILENO;
-ghost use Prim.Native.Nat.{_+_, _≤_};
-ghost use lib.ListN.{length};
+ghost use Prim.Native.Nat.{_+_, _≤_, _<_};
+ghost use mathlib.Core.Path.{_≡_};
+ghost use lib.ListN.{length, take};
 ghost use Rattle.io.specs.Counts.{Counts};
 
 // How many bytes of a file stand at the start of a buffer; or errno, which is 0 where nothing failed.
@@ -27,10 +28,11 @@ fn read_some(fd: i32, buffer: &mut [u8]) -> Got
     }
 }
 
-// The same, to the bytes from a place on.
-fn read_from(fd: i32, buffer: &mut [u8], at: usize) -> Got
-    requires { ⌜ at ≤ length (now buffer) ⌝ }
+// The same, to the bytes from a place on, of which there are some: none that come are the file's end.
+pub fn read_from(fd: i32, buffer: &mut [u8], at: usize) -> Got
+    requires { ⌜ at < length (now buffer) ⌝ }
     ensures { λ r. ⌜ at + r .count ≤ length (now (buffer .exit)) ⌝ }
+    ensures { λ _. ⌜ take at (now (buffer .exit)) ≡ take at (now (buffer .entry)) ⌝ }
 {
     read_some(fd, &mut buffer[at..])
 }
@@ -59,10 +61,26 @@ fn fill(fd: i32, buffer: &mut [u8]) -> Got
     }
 }
 
-fn read_file(name: &[u8], buffer: &mut [u8]) -> Got
+// The descriptor of a file by name, of standard input for `-`; or one below 0, and errno tells why.
+pub fn open(name: &[u8]) -> i32 {
+    if check::same(name, b"-") {
+        return STDIN_FILENO;
+    }
+    os::open_read(name)
+}
+
+// Standard input stays open.
+pub fn close(fd: i32) {
+    if fd != STDIN_FILENO {
+        libc::close(fd);
+    }
+}
+
+// The file of a name, as far as the buffer has room.
+pub fn read(name: &[u8], buffer: &mut [u8]) -> Got
     ensures { λ r. ⌜ Counts (r .count) (now (buffer .exit)) ⌝ }
 {
-    let fd = os::open_read(name);
+    let fd = open(name);
     if fd < 0 {
         return Got {
             count: 0,
@@ -70,16 +88,6 @@ fn read_file(name: &[u8], buffer: &mut [u8]) -> Got
         };
     }
     let got = fill(fd, buffer);
-    libc::close(fd);
+    close(fd);
     got
-}
-
-// The file of a name, or standard input for `-`, as far as the buffer has room.
-pub fn read(name: &[u8], buffer: &mut [u8]) -> Got
-    ensures { λ r. ⌜ Counts (r .count) (now (buffer .exit)) ⌝ }
-{
-    if check::same(name, b"-") {
-        return fill(STDIN_FILENO, buffer);
-    }
-    read_file(name, buffer)
 }

@@ -1,11 +1,15 @@
-// What `pft` answers and says: its subcommands over a tree file and frame files by name.
+// What `pft` answers and says: its subcommands over a tree file, frame files and captures by name.
+mod count;
 mod files;
 mod list;
+mod over;
 mod run;
+mod windows;
 
 use error::Refusal;
 use error::refusal_number;
 pub use list::list_input;
+use over::Work;
 
 // Where lines go: descriptors for answers, and for what is refused or cannot be read.
 pub struct Output {
@@ -73,6 +77,7 @@ fn put_reason(fd: i32, error: i32) -> bool {
         libc::ENAMETOOLONG => text(fd, b"its name is too long\n"),
         libc::ELOOP => text(fd, b"too many links\n"),
         libc::EBADF => text(fd, b"it is not open\n"),
+        libc::EFBIG => text(fd, b"it is too long\n"),
         libc::ENOSPC => text(fd, b"no space is left\n"),
         libc::EPIPE => text(fd, b"nobody reads it\n"),
         _ => text(fd, b"the system reports an error\n"),
@@ -89,12 +94,17 @@ fn put_name(fd: i32, name: &[u8]) -> bool {
 
 // ---- lines of people; each function answers how that part of the work ended
 
+// The front of a line on a refusal.
+fn put_refused(fd: i32, name: &[u8], r: Refusal) {
+    put_name(fd, name);
+    text(fd, b": refused ");
+    io::print_decimal(fd, refusal_number(r) as u64);
+    text(fd, b", ");
+    put_refusal(fd, r);
+}
+
 fn refused(o: Output, name: &[u8], r: Refusal) -> u8 {
-    put_name(o.messages, name);
-    text(o.messages, b": refused ");
-    io::print_decimal(o.messages, refusal_number(r) as u64);
-    text(o.messages, b", ");
-    put_refusal(o.messages, r);
+    put_refused(o.messages, name, r);
     text(o.messages, b"\n");
     REFUSED
 }
@@ -143,7 +153,10 @@ pub fn answer(from: usize, to: usize, o: Output) -> u8 {
         return list::answer(from + 1, to, o);
     }
     if check::same(&word[..n], b"run") {
-        return run::answer(from + 1, to, o);
+        return over::answer(Work::Run, from + 1, to, o);
+    }
+    if check::same(&word[..n], b"count") {
+        return over::answer(Work::Count, from + 1, to, o);
     }
     USAGE
 }

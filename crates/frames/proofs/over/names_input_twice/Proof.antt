@@ -1,8 +1,8 @@
 -- It ends: the arguments that are left fall.
 use borrow.Author.Needs.{needs}
 use Prim.Native.Nat.{_-_}
-use Rattle.frames.proofs.run.names_input_twice.Statement.{statement}
-use Rattle.frames.proofs.run.names_input_twice.Tie as tie
+use Rattle.frames.proofs.over.names_input_twice.Statement.{statement}
+use Rattle.frames.proofs.over.names_input_twice.Tie as tie
 
 abbrev Inv-loop : tie.InvT-loop
 Inv-loop from to named₀ i₀ named i = Unit {0}

@@ -1,0 +1,163 @@
+// A tree file's program over the files that are named after it: what `pft run` and `pft count` share.
+use crate::DONE;
+use crate::Output;
+use crate::UNWRITTEN;
+use crate::USAGE;
+use crate::count;
+use crate::files;
+use crate::is_option;
+use crate::refused;
+use crate::run;
+use crate::text;
+use crate::unread;
+use crate::unread_argument;
+use crate::worse;
+use build::BuildResult;
+use error::Refusal;
+
+// What is done with each file: it is run as a frame, or its frames are counted.
+pub enum Work {
+    Run,
+    Count,
+}
+
+// ---- the files
+
+fn try_file(work: Work, name: &[u8], tree: &[u8], program: &[u8], o: Output) -> u8 {
+    match work {
+        Work::Run => run::try_file(name, tree, program, o),
+        Work::Count => count::try_file(name, tree, program, o),
+    }
+}
+
+fn try_argument(work: Work, i: usize, tree: &[u8], program: &[u8], o: Output) -> u8 {
+    let mut name = io::buffer();
+    let n = os::arg(i, &mut name);
+    let error = os::errno();
+    if error != 0 {
+        return unread_argument(o, i, error);
+    }
+    try_file(work, &name[..n], tree, program, o)
+}
+
+// The arguments from one number up to another.
+fn try_arguments(work: Work, from: usize, to: usize, tree: &[u8], program: &[u8], o: Output) -> u8 {
+    let mut worst = DONE;
+    let mut i = from;
+    while i < to && worst < UNWRITTEN {
+        worst = worse(worst, try_argument(work, i, tree, program, o));
+        i += 1;
+    }
+    worst
+}
+
+// ---- the tree
+
+// The first n bytes.
+fn first(buffer: &[u8], n: usize) -> &[u8] {
+    if n <= buffer.len() {
+        &buffer[0..n]
+    } else {
+        buffer
+    }
+}
+
+// A tree that passes checks 1 to 4 has a direct reading.
+fn is_tree(r: Refusal) -> bool {
+    match r {
+        Refusal::KindOnRaw | Refusal::PortProtocol | Refusal::EtherOnRaw | Refusal::FarJump => true,
+        _ => false,
+    }
+}
+
+// A frame may still be read directly. A capture is not even opened.
+fn without_program(
+    work: Work,
+    name: &[u8],
+    r: Refusal,
+    tree: &[u8],
+    from: usize,
+    to: usize,
+    o: Output,
+) -> u8 {
+    let ended = refused(o, name, r);
+    match work {
+        Work::Count => ended,
+        Work::Run => {
+            if is_tree(r) {
+                return worse(ended, try_arguments(work, from, to, tree, b"", o));
+            }
+            ended
+        }
+    }
+}
+
+fn with_tree(work: Work, name: &[u8], tree: &[u8], from: usize, to: usize, o: Output) -> u8 {
+    let mut program = [0u8; 32768];
+    match build::build(tree, &mut program) {
+        BuildResult::Count(count) => {
+            let n = 8 * count as usize;
+            try_arguments(work, from, to, tree, first(&program, n), o)
+        }
+        BuildResult::Refused(r) => without_program(work, name, r, tree, from, to, o),
+    }
+}
+
+// As in `pft list`, 4,096 bytes tell all of a tree file.
+fn with_tree_file(work: Work, name: &[u8], from: usize, to: usize, o: Output) -> u8 {
+    let mut tree = io::buffer();
+    let got = files::read(name, &mut tree);
+    if got.error != 0 {
+        return unread(o, name, got.error);
+    }
+    let n = got.count;
+    with_tree(work, name, &tree[..n], from, to, o)
+}
+
+// ---- the arguments
+
+fn is_standard_input(i: usize) -> bool {
+    let mut name = io::buffer();
+    let n = os::arg(i, &mut name);
+    check::same(&name[..n], b"-")
+}
+
+// Whether standard input is named twice: it can be read once.
+fn names_input_twice(from: usize, to: usize) -> bool {
+    let mut named = false;
+    let mut i = from;
+    while i < to {
+        if is_standard_input(i) {
+            if named {
+                return true;
+            }
+            named = true;
+        }
+        i += 1;
+    }
+    false
+}
+
+// A tree and one file or more.
+pub fn answer(work: Work, from: usize, to: usize, o: Output) -> u8 {
+    if to <= from || to - from < 2 {
+        return USAGE;
+    }
+    let mut name = io::buffer();
+    let n = os::arg(from, &mut name);
+    let error = os::errno();
+    if error != 0 {
+        return unread_argument(o, from, error);
+    }
+    if is_option(&name[..n]) {
+        return USAGE;
+    }
+    if names_input_twice(from, to) {
+        text(
+            o.messages,
+            b"standard input: named twice, and it can be read once\n",
+        );
+        return USAGE;
+    }
+    with_tree_file(work, &name[..n], from + 1, to, o)
+}
