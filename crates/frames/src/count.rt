@@ -2,19 +2,17 @@
 use crate::Output;
 use crate::REFUSED;
 use crate::answered;
-use crate::files;
 use crate::put_name;
 use crate::put_refused;
 use crate::refused;
 use crate::text;
 use crate::unread;
-use crate::windows;
-use crate::windows::Counted;
 use crate::worse;
 use ast::LinkType;
 use capture::CountResult;
 use capture::Tally;
 use error::Refusal;
+use files::Counted;
 use reader::Checked;
 ghost use mathlib.Core.Path.{_≡_};
 ghost use lib.ListN.{length};
@@ -147,7 +145,7 @@ fn count_file(name: &[u8], program: &[u8], link: LinkType, o: Output) -> u8 {
         return unread(o, name, os::errno());
     }
     let mut buffer = room();
-    let counted = windows::count(fd, program, link, &mut buffer);
+    let counted = files::count(fd, program, link, &mut buffer);
     files::close(fd);
     tell(name, counted, link, &buffer, o)
 }

@@ -1,10 +1,8 @@
 // What `pft` answers and says: its subcommands over a tree file, frame files and captures by name.
 mod count;
-mod files;
 mod list;
 mod over;
 mod run;
-mod windows;
 
 use error::Refusal;
 use error::refusal_number;

@@ -3,7 +3,6 @@ use crate::Output;
 use crate::REFUSED;
 use crate::USAGE;
 use crate::answered;
-use crate::files;
 use crate::is_option;
 use crate::refused;
 use crate::unread;

@@ -4,7 +4,6 @@ use crate::Output;
 use crate::UNWRITTEN;
 use crate::USAGE;
 use crate::count;
-use crate::files;
 use crate::is_option;
 use crate::refused;
 use crate::run;

@@ -1,7 +1,6 @@
 // `pft run`: what is answered of a frame file, its verdict and its direct reading.
 use crate::Output;
 use crate::answered;
-use crate::files;
 use crate::put_name;
 use crate::refused;
 use crate::text;

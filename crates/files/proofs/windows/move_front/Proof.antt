@@ -4,9 +4,9 @@ use Prim.Native.Nat.{_-_, _≤_}
 use mathlib.Core.Path.{_≡_}
 use native.Mathlib.Omega.{arith}
 use lib.ListN.{length}
-use Rattle.frames.proofs.Moving.{Moved, none-moved, one-moved}
-use Rattle.frames.proofs.windows.move_front.Statement.{statement}
-use Rattle.frames.proofs.windows.move_front.Tie as tie
+use Rattle.files.proofs.Moving.{Moved, none-moved, one-moved}
+use Rattle.files.proofs.windows.move_front.Statement.{statement}
+use Rattle.files.proofs.windows.move_front.Tie as tie
 
 abbrev Inv-loop : tie.InvT-loop
 Inv-loop buffer₀ from to i₀ buffer i = (i ≤ to) × Moved buffer₀ from i buffer

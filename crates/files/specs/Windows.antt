@@ -10,9 +10,9 @@ use Rattle.capture.specs.declared.Stage.{Stage}
 use Rattle.capture.specs.declared.Stage.the-variants.{Header, Within, Turned}
 use Rattle.capture.specs.Counting.{none, counted}
 use Rattle.capture.specs.Turns.{Reading, more}
-use Rattle.frames.specs.declared.windows.Progress.{Progress}
-use Rattle.frames.specs.declared.windows.Counted.{Counted}
-use Rattle.frames.specs.declared.windows.Counted.the-variants.{Read, Failed}
+use Rattle.files.specs.declared.windows.Progress.{Progress}
+use Rattle.files.specs.declared.windows.Counted.{Counted}
+use Rattle.files.specs.declared.windows.Counted.the-variants.{Read, Failed}
 
 -- the most bytes that a file can have
 abbrev pub most : ℕ

@@ -5,8 +5,8 @@ use lib.ListN.{length}
 use lib.Seq.{length-take-le}
 use Prim.Native.Nat.{_≤_, _-_}
 use mathlib.Core.Path.{_≡_, sym}
-use Rattle.frames.proofs.files.fill.Statement.{statement}
-use Rattle.frames.proofs.files.fill.Tie as tie
+use Rattle.files.proofs.fill.Statement.{statement}
+use Rattle.files.proofs.fill.Tie as tie
 
 abbrev Inv-loop : tie.InvT-loop
 Inv-loop fd buffer₀ done₀ buffer done = (done ≤ length buffer) × (length buffer ≡ length buffer₀)

@@ -3,9 +3,9 @@ use borrow.Author.Needs.{needs}
 use native.Mathlib.Omega.{arith}
 use mathlib.Core.Path.{sym}
 use lib.Seq.{length-take-le}
-use Rattle.frames.proofs.Reading.{window-within, window-sound-here, window-used}
-use Rattle.frames.proofs.windows.use_window.Statement.{statement}
-use Rattle.frames.proofs.windows.use_window.Tie as tie
+use Rattle.files.proofs.Reading.{window-within, window-sound-here, window-used}
+use Rattle.files.proofs.windows.use_window.Statement.{statement}
+use Rattle.files.proofs.windows.use_window.Tie as tie
 
 slice-reshare-prefix-take-window : tie.Need-slice-reshare-prefix-take-window
 slice-reshare-prefix-take-window c = search needs

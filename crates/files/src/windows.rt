@@ -1,5 +1,5 @@
 // A capture of any size, read in windows: what is not yet used of it stands at the start of a lent buffer, and what is read follows it.
-use crate::files;
+use crate::read_from;
 use ast::LinkType;
 use capture::CountResult;
 use capture::Stage;
@@ -8,8 +8,8 @@ ghost use mathlib.Core.Path.{_≡_};
 ghost use Prim.Native.Nat.{_+_, _-_, _^_, _≤_, _<_};
 ghost use lib.ListN.{length, take, drop};
 ghost use Rattle.capture.specs.Turns.{sum as T·sum, finish as T·finish};
-ghost use Rattle.frames.specs.Windows.{beginning, isTurned, Sound, Used, Whole};
-ghost use Rattle.frames.specs.declared.windows.Counted.the-variants.{Read};
+ghost use Rattle.files.specs.Windows.{beginning, isTurned, Sound, Used, Whole};
+ghost use Rattle.files.specs.declared.windows.Counted.the-variants.{Read};
 
 // The most bytes that a file can have. Of a pipe that gives more nothing is counted.
 const MOST: usize = 9223372036854775807;
@@ -122,7 +122,7 @@ pub fn count(fd: i32, program: &[u8], link: LinkType, buffer: &mut [u8]) -> Coun
             return Counted::Failed(libc::EFBIG);
         }
         let left = p.left;
-        let got = files::read_from(fd, buffer, left);
+        let got = read_from(fd, buffer, left);
         if got.error != 0 {
             return Counted::Failed(got.error);
         }

@@ -3,8 +3,8 @@ use borrow.Author.Needs.{needs}
 use Prim.Native.Nat.{_-_}
 use lib.ListN.{length}
 use borrow.Rule.Slice.PartMut.{take-put}
-use Rattle.frames.proofs.files.read_from.Statement.{statement}
-use Rattle.frames.proofs.files.read_from.Tie as tie
+use Rattle.files.proofs.read_from.Statement.{statement}
+use Rattle.files.proofs.read_from.Tie as tie
 
 sub-read-some : tie.Need-sub-read-some
 sub-read-some c = search needs

@@ -1,5 +1,9 @@
-// Files by name, read into lent buffers.
+// Files by name, read into lent buffers; captures in windows of one buffer.
+mod windows;
+
 use libc::STDIN_FILENO;
+pub use windows::Counted;
+pub use windows::count;
 ghost use Prim.Native.Nat.{_+_, _≤_, _<_};
 ghost use mathlib.Core.Path.{_≡_};
 ghost use lib.ListN.{length, take};

@@ -22,8 +22,8 @@ use Rattle.capture.specs.Counting.{counted}
 use Rattle.capture.specs.Turns.{awaits, window, sum, stay, begin, step, Reading, more, reading, unread, finish, finished, concat}
 use Rattle.capture.proofs.Joins.{tally-few}
 use Rattle.capture.proofs.Turning.{step-few, in-turn}
-use Rattle.frames.specs.declared.windows.Progress.{Progress}
-use Rattle.frames.specs.Windows.{most, beginning, isTurned, held, behind, Sound, Used}
+use Rattle.files.specs.declared.windows.Progress.{Progress}
+use Rattle.files.specs.Windows.{most, beginning, isTurned, held, behind, Sound, Used}
 
 -- ---- tallies
 

@@ -4,10 +4,10 @@ use Prim.Native.Nat.{_+_, _-_}
 use mathlib.Core.Path.{_≡_, sym, _∙_}
 use native.Mathlib.Omega.{arith}
 use lib.ListN.{length}
-use Rattle.frames.specs.Windows.{most}
-use Rattle.frames.proofs.Reading.{Going, starts, whole, goes}
-use Rattle.frames.proofs.windows.count.Statement.{statement}
-use Rattle.frames.proofs.windows.count.Tie as tie
+use Rattle.files.specs.Windows.{most}
+use Rattle.files.proofs.Reading.{Going, starts, whole, goes}
+use Rattle.files.proofs.windows.count.Statement.{statement}
+use Rattle.files.proofs.windows.count.Tie as tie
 
 abbrev Inv-loop : tie.InvT-loop
 Inv-loop fd program link buffer₀ p₀ buffer p = Going program link buffer₀ buffer p
