@@ -237,7 +237,7 @@ def try_huge(tally):
 
 
 def try_files(tally, room):
-    """A capture that is refused or cannot be read is passed over; the largest status holds; a name may hold anything."""
+    """What is refused or cannot be read is passed over; the largest status holds; a name may hold anything."""
     odd = f"{room}/a: kept 9 of 9 frames.pcap"
     shutil.copy(ALL, odd)
     empty = f"{room}/empty.pcap"
