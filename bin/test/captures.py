@@ -8,7 +8,8 @@ both byte orders, with both marks, whole and cut anywhere, are read from a file
 and by reads of chosen lengths; the reader and the filter below, which share
 nothing with the command, say what is to come of each. Then every message, and
 captures of several buffers and of over 4 GiB. The last line is
-`R refused, N compared, M differences`; the status is 1 if M is not 0.
+`R refused, N compared, M differences`; the status is 1 if M is not 0, or where
+the command is not made.
 """
 import itertools
 import os
@@ -346,6 +347,9 @@ def main():
         print(USAGE, file=sys.stderr)
         sys.exit(2)
     seed, count = (int(word) for word in words + ["1", "200"][len(words) :])
+    _, messages, status = run("count", WEB, ALL)
+    if status == 2:
+        sys.exit(messages.rstrip())
     tally = Tally()
     for part in (try_input, try_failing, try_output, try_huge):
         part(tally)
