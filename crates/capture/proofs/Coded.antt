@@ -54,6 +54,22 @@ opened-order link s o e = go (orderOf s) e
 pub opened-long : (link : LinkType) (s : List ℕ) (o : Order) → opened link s ≡ done o → 24 ≤ length s
 opened-long link s o e = order-long s (opened-order link s o e)
 
+-- two files with the same mark and link field
+module _ (s t : List ℕ) (h : 24 ≤ length s) (k : 24 ≤ length t) (mark : (o : Order) → numberAt o 0 t ≡ numberAt o 0 s) where
+  order-alike : orderOf t ≡ orderOf s
+  unfolding orderOf
+  order-alike = rw (le-ltb (length t) 24 k, le-ltb (length s) 24 h, mark Big, mark Little)
+
+  pub opened-alike : (link : LinkType) → ((o : Order) → numberAt o 20 t ≡ numberAt o 20 s) → opened link t ≡ opened link s
+  unfolding opened
+  opened-alike link field = rw order-alike (go (orderOf s))
+    where
+      go : (x : Out Order)
+          → (x >>= λ o. cond (eqb (numberAt o 20 t) (fieldOf link)) (done o) (refused OtherLink))
+          ≡ (x >>= λ o. cond (eqb (numberAt o 20 s) (fieldOf link)) (done o) (refused OtherLink))
+      go (refused r) = refl
+      go (done o) = rw (field o)
+
 -- ---- the front at a place
 
 module _ (o : Order) (s : List ℕ) (at : ℕ) where

@@ -1,17 +1,17 @@
 -- The file header, and one frame at a time.
-use Prim.Native.Nat.{ℕ, _+_, _*_, _≤_, _<_}
-use mathlib.Core.Path.{_≡_, refl, sym, ap, _∙_}
+use Prim.Native.Nat.{ℕ, _+_}
+use mathlib.Core.Path.{_≡_, refl}
 use mathlib.Core.List.{List}
 use mathlib.Core.Bool.{Bool, true, false, cond, _||_}
 use mathlib.Core.Logic.{_⊎_, inl, inr}
 use native.Mathlib.Omega.{arith}
-use borrow.Author.Tests.{ltb-true, ltb-false, lt-ltb, le-ltb, eq-eqb, ne-eqb, eqb-true}
-use lib.ListN.{length, drop, getD}
+use borrow.Author.Tests.{ltb-false, le-ltb, eq-eqb, ne-eqb, eqb-true}
+use lib.ListN.{length, drop}
 use lib.Seq.{drop-drop}
 use lib.Dec.{ltb, eqb}
 use Rattle.error.specs.declared.Refusal.{Refusal}
 use Rattle.error.specs.declared.Refusal.the-variants.{NoCapture, OtherLink, CutFrame}
-use Rattle.error.specs.Answer.{Out, refused, done, _>>=_}
+use Rattle.error.specs.Answer.{refused, done}
 use Rattle.bpf.specs.Bytes.{AreBytes, be, leAt}
 use Rattle.ast.specs.declared.LinkType.{LinkType}
 use Rattle.capture.specs.declared.Order.{Order}

@@ -12,8 +12,8 @@ use Rattle.capture.specs.declared.Tally.{Tally}
 use Rattle.capture.specs.Capture.{front, Piece, piece, part, Frames, stopped, given, frames}
 use Rattle.capture.specs.Counting.{keeps, passing, tallyOf}
 use Rattle.capture.specs.Turns.{window, sum}
-use Rattle.capture.specs.Reads.{Chain, Stops}
-use Rattle.capture.proofs.Laws.{Fits, front-prefix, frames-stop, frames-whole, by-frames}
+use Rattle.capture.specs.Reads.{Chain}
+use Rattle.capture.proofs.Laws.{Stops, Fits, front-prefix, frames-stop, frames-whole, by-frames}
 use Rattle.capture.proofs.Whole.{gives}
 
 -- ---- places counted from further on

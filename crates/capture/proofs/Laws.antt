@@ -11,10 +11,15 @@ use Rattle.capture.specs.declared.Order.{Order}
 use Rattle.capture.specs.declared.Front.{Front}
 use Rattle.capture.specs.declared.Front.the-variants.{Whole, Past, Over}
 use Rattle.capture.specs.Capture.{numberAt, front, piece, Frames, stopped, given, onward, framesAfter, frames}
-use Rattle.capture.specs.Reads.{Stops}
 use Rattle.capture.proofs.Numbers.{number-prefix}
 
 -- ---- the front
+
+-- no whole frame stands there
+abbrev pub Stops : Front → Type 0
+Stops (Whole n) = ⊥
+Stops Past = Unit {0}
+Stops Over = Unit {0}
 
 abbrev isOver : Front → Bool
 isOver (Whole n) = false

@@ -5,5 +5,6 @@ pub mod Joins
 pub mod Coded
 pub mod Headers
 pub mod Turning
+pub mod Untested
 pub mod Passing
 pub mod Examples

@@ -9,14 +9,12 @@ use lib.Seq.{drop-drop, take-all}
 use Rattle.capture.specs.declared.Order.{Order}
 use Rattle.capture.specs.declared.Front.{Front}
 use Rattle.capture.specs.declared.Front.the-variants.{Whole}
-use Rattle.capture.specs.declared.Tally.{Tally}
 use Rattle.capture.specs.Capture.{numberAt, front, piece, part, frames}
 use Rattle.capture.specs.Counting.{keeps, passing, tallyOf}
 use Rattle.capture.specs.Turns.{awaits, window}
-use Rattle.capture.specs.Reads.{Stops}
 use Rattle.capture.proofs.Numbers.{number-drop}
 use Rattle.capture.proofs.Joins.{bit-few}
-use Rattle.capture.proofs.Laws.{front-fits, frames-stop, frames-whole}
+use Rattle.capture.proofs.Laws.{Stops, front-fits, frames-stop, frames-whole}
 
 -- the frames before a place are counted: with those from there on they are all
 pub record Passed (P : List ℕ) (o : Order) (w : List ℕ) (at kept given : ℕ) : Type 0 where

@@ -1,20 +1,20 @@
 -- A file read in windows, cut anywhere, is the file read at once.
 use Prim.Native.Nat.{ℕ, _+_, _-_, _≤_, _<_}
-use mathlib.Core.Path.{_≡_, refl, sym, ap, ap₂, _∙_}
+use mathlib.Core.Path.{_≡_, refl, sym, ap, _∙_}
 use mathlib.Core.List.{List, [], _∷_, _++_, append-assoc, append-nil}
 use mathlib.Core.Bool.{Bool, true, false, cond}
+use mathlib.Core.Logic.{_⊎_, inl, inr}
 use native.Mathlib.Omega.{arith}
 use borrow.Author.Tests.{ltb-true, ltb-false, lt-ltb, le-ltb, eq-eqb, ne-eqb}
 use lib.ListN.{length, drop, length-append, length-drop}
 use lib.Seq.{drop-drop, drop-append-le}
-use lib.Dec.{ltb, eqb}
+use lib.Dec.{ltb}
 use native.Mathlib.Nat.{zero-add}
 use Rattle.error.specs.declared.Refusal.{Refusal}
-use Rattle.error.specs.declared.Refusal.the-variants.{NoCapture, OtherLink, CutFrame}
-use Rattle.error.specs.Answer.{Out, refused, done, _>>=_}
+use Rattle.error.specs.declared.Refusal.the-variants.{NoCapture, CutFrame}
+use Rattle.error.specs.Answer.{Out, refused, done}
 use Rattle.ast.specs.declared.LinkType.{LinkType}
 use Rattle.capture.specs.declared.Order.{Order}
-use Rattle.capture.specs.declared.Order.the-variants.{Big, Little}
 use Rattle.capture.specs.declared.Front.{Front}
 use Rattle.capture.specs.declared.Front.the-variants.{Whole, Past, Over}
 use Rattle.capture.specs.declared.Tally.{Tally}
@@ -22,37 +22,20 @@ use Rattle.capture.specs.declared.CountResult.the-variants.{Count, Refus
 use Rattle.capture.specs.declared.Stage.{Stage}
 use Rattle.capture.specs.declared.Stage.the-variants.{Header, Within, Turned}
 use Rattle.capture.specs.declared.Step.{Step}
-use Rattle.capture.specs.Capture.{numberAt, orderOf, fieldOf, opened, front, stopped, frames, framesOf}
+use Rattle.capture.specs.Capture.{orderOf, opened, front, frames, framesOf}
 use Rattle.capture.specs.Counting.{passing, tallyOf, none, ended, over, counted}
 use Rattle.capture.specs.Turns.{awaits, window, sum, onto, fileHeader, stay, begin, step, Reading, more, reading, unread, finish, finished, concat, InTurn}
-use Rattle.capture.specs.Reads.{Stops}
 use Rattle.capture.proofs.Numbers.{number-prefix}
+use Rattle.capture.proofs.Coded.{opened-alike}
 use Rattle.capture.proofs.Laws.{over-number, over-prefix, past-few, frames-stop, frames-whole}
 use Rattle.capture.proofs.Whole.{gives}
 use Rattle.capture.proofs.Joins.{window-few, tally-from, left, joined-rest, joined-tally, frames-append}
 
 -- ---- the header of a file that goes on
 
-module _ (s on : List ℕ) (h : 24 ≤ length s) where
-  order-prefix : orderOf (s ++ on) ≡ orderOf s
-  unfolding orderOf
-  order-prefix =
-      rw (
-        number-prefix Big 0 s on (omega arith),
-        number-prefix Little 0 s on (omega arith),
-        le-ltb (length (s ++ on)) 24 (omega (arith, length-append s on)),
-        le-ltb (length s) 24 h,
-      )
-
-  opened-prefix : (link : LinkType) → opened link (s ++ on) ≡ opened link s
-  unfolding opened
-  opened-prefix link = rw order-prefix (go (orderOf s))
-    where
-      go : (x : Out Order)
-          → (x >>= λ o. cond (eqb (numberAt o 20 (s ++ on)) (fieldOf link)) (done o) (refused OtherLink))
-          ≡ (x >>= λ o. cond (eqb (numberAt o 20 s) (fieldOf link)) (done o) (refused OtherLink))
-      go (refused r) = refl
-      go (done o) = rw (number-prefix o 20 s on (omega arith))
+opened-prefix : (s on : List ℕ) → 24 ≤ length s → (link : LinkType) → opened link (s ++ on) ≡ opened link s
+opened-prefix s on h link =
+    opened-alike s (s ++ on) h (omega (arith, length-append s on)) (λ o. number-prefix o 0 s on (omega arith)) link (λ o. number-prefix o 20 s on (omega arith))
 
 -- ---- sums
 
@@ -188,7 +171,7 @@ module _ (P : List ℕ) (link : LinkType) where
     abbrev at-end : Step → ℕ
     at-end v = length s - v .tally .stop
 
-    no-header : length s < 24 → opened link s ≡ refused NoCapture
+    pub no-header : length s < 24 → opened link s ≡ refused NoCapture
     unfolding opened orderOf
     no-header h = rw (lt-ltb (length s) 24 h)
 
@@ -243,17 +226,23 @@ module _ (P : List ℕ) (link : LinkType) where
 
   -- ---- room for every frame
 
-  turned : {A : Type 0} {o : Order} {r : Refusal} → Turned r ≡ Within o → A
-  turned e = let z : _≡_ {A = ℕ} 0 1 = cc in absurd (omega arith)
+  abbrev Moves : Step → Type 0
+  Moves v = (1 ≤ v .tally .stop) ⊎ ((r : Refusal) × (v .stage ≡ Turned r))
 
-  moves : (o : Order) (w : List ℕ) → 65551 ≤ length w → step P link (Within o) w .stage ≡ Within o → 1 ≤ step P link (Within o) w .tally .stop
+  moves : (g : Stage) (w : List ℕ) → 65551 ≤ length w → Moves (step P link g w)
   unfolding step window
-  moves o w h e = go (front o w) refl
+  moves Header w h = rw (le-ltb (length w) 24 (omega arith)) (go (opened link w))
     where
-      go : (f : Front) → front o w ≡ f → 1 ≤ window P o w .tally .stop
-      go (Whole n) p = rw (frames-whole o 0 n w p) (omega (arith, frames-append o [] (16 + n) (drop (16 + n) w) .later))
+      go : (x : Out Order) → Moves (begin P w x)
+      go (refused r) = inr (r, refl)
+      go (done o) = inl (omega arith)
+  moves (Within o) w h = go (front o w) refl
+    where
+      go : (f : Front) → front o w ≡ f → Moves (window P o w)
+      go (Whole n) p = inl (rw (frames-whole o 0 n w p) (omega (arith, frames-append o [] (16 + n) (drop (16 + n) w) .later)))
       go Past p = absurd (omega (arith, past-few o w p))
-      go Over p = turned (sym (ap (λ v. v .stage) (window-over o w p)) ∙ e)
+      go Over p = inr (CutFrame, ap (λ v. v .stage) (window-over o w p))
+  moves (Turned r) w h = inr (r, refl)
 
   pub in-turn : InTurn P link
   in-turn = record { same = λ cuts. ap finished (turns cuts) ∙ finish-one (concat cuts); within = step-few; moves = moves }

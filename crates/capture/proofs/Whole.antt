@@ -2,20 +2,25 @@
 use Prim.Native.Nat.{ℕ, _+_, _-_, _≤_}
 use mathlib.Core.Path.{_≡_, refl, sym, ap, _∙_}
 use mathlib.Core.List.{List, [], _∷_, _++_, append-assoc}
+use mathlib.Core.Bool.{Bool, true, false}
+use mathlib.Core.Logic.{inl, inr}
 use native.Mathlib.Omega.{arith}
+use borrow.Author.Tests.{ltb-true, ltb-false}
 use lib.ListN.{length, take, drop, length-drop, take-append-drop}
-use lib.Seq.{drop-drop, drop-length}
+use lib.Seq.{drop-drop}
+use lib.Dec.{ltb}
 use Rattle.capture.specs.declared.Order.{Order}
-use Rattle.capture.specs.declared.Front.the-variants.{Whole}
-use Rattle.capture.specs.Capture.{front, Piece, piece, Frames, stopped, given, frames, framesOf}
-use Rattle.capture.specs.Reads.{Good, Chain, Stops, bytesOf, Read}
+use Rattle.capture.specs.declared.Front.{Front}
+use Rattle.capture.specs.declared.Front.the-variants.{Whole, Past, Over}
+use Rattle.capture.specs.Capture.{numberAt, front, Piece, piece, Frames, stopped, given, frames, framesOf}
+use Rattle.capture.specs.Reads.{Good, Chain, Bad, bytesOf, Read}
 use Rattle.capture.proofs.Numbers.{number-drop}
-use Rattle.capture.proofs.Laws.{Fits, fits-front, frames-stop, frames-whole, by-frames}
+use Rattle.capture.proofs.Laws.{Stops, not-whole, Fits, front-fits, fits-front, frames-stop, frames-whole, by-frames}
 
 module _ (o : Order) (s : List ℕ) where
   -- the frame at a place, with the bytes from there on
-  good : (at n : ℕ) → at ≤ length s → Fits o (drop at s) n → Good o s at (piece (at + 16) n)
-  good at n h f =
+  good : (at n : ℕ) → Fits o (drop at s) n → Good o s at (piece (at + 16) n)
+  good at n f =
       record {
         behind = refl;
         captured = f .captured ∙ number-drop o 8 at s;
@@ -30,6 +35,37 @@ module _ (o : Order) (s : List ℕ) where
         most = g .most;
         within = omega (arith, g .within, g .behind, length-drop at s);
       }
+
+  -- ---- where no whole frame stands
+
+  bad-stops : (at : ℕ) → Bad o s at → Stops (front o (drop at s))
+  bad-stops at b = go (front o (drop at s)) refl b
+    where
+      go : (f : Front) → front o (drop at s) ≡ f → Bad o s at → Stops f
+      go Past e b = tt
+      go Over e b = tt
+      go (Whole n) e b =
+          let g = good at n (front-fits o (drop at s) n e) in
+          absurd (none g b)
+        where
+          none : Good o s at (piece (at + 16) n) → Bad o s at → ⊥
+          none g (inl h) = omega (arith, g .within)
+          none g (inr (inl h)) = omega (arith, g .within, g .captured)
+          none g (inr (inr h)) = omega (arith, g .most, g .captured)
+
+  abbrev said : ℕ → ℕ
+  said at = numberAt o (at + 8) s
+
+  stops-bad : (at : ℕ) → Stops (front o (drop at s)) → Bad o s at
+  stops-bad at z = go (ltb (length s) (at + 16)) refl (ltb (length s) (at + 16 + said at)) refl (ltb 65535 (said at)) refl
+    where
+      go : (a : Bool) → ltb (length s) (at + 16) ≡ a → (b : Bool) → ltb (length s) (at + 16 + said at) ≡ b → (c : Bool) → ltb 65535 (said at) ≡ c → Bad o s at
+      go true p b q c r = inl (ltb-true (length s) (at + 16) p)
+      go false p true q c r = inr (inl (ltb-true (length s) (at + 16 + said at) q))
+      go false p false q true r = inr (inr (ltb-true 65535 (said at) r))
+      go false p false q false r =
+          let g : Good o s at (piece (at + 16) (said at)) = record { behind = refl; captured = refl; most = ltb-false 65535 (said at) r; within = ltb-false (length s) (at + 16 + said at) q } in
+          not-whole z (fits-front o (drop at s) (said at) (fits at (piece (at + 16) (said at)) g))
 
   -- ---- what is given
 
@@ -48,7 +84,7 @@ module _ (o : Order) (s : List ℕ) where
           → (a + 16 + n ≤ length s → drop (16 + n) r ≡ drop (a + 16 + n) s → Given (a + 16 + n) (frames o (a + 16 + n) (drop (16 + n) r)))
           → a ≤ length s → r ≡ drop a s → Given a (given (piece (a + 16) n) (frames o (a + 16 + n) (drop (16 + n) r)))
       goes a n r w f later h e =
-          let g = good a n h (rw e at f) in
+          let g = good a n (rw e at f) in
           let m : a + (16 + n) ≡ a + 16 + n = omega arith in
           let k = later (g .within) (rw (e, drop-drop (16 + n) a s, m)) in
           record { chain = (g, k .chain); last = k .last; none = k .none }
@@ -77,17 +113,13 @@ module _ (o : Order) (s : List ℕ) where
       ∙ rw (a, append-assoc, append-assoc, ← joined (p .place + p .size) ps end (c .1), drop-drop 16 at s, b)
       (ap (λ t. take 16 (drop at s) ++ t) (sym (take-append-drop (p .size) (drop (p .place) s)) ∙ rw (drop-drop (p .size) (p .place) s)))
 
-  none-left : Stops (front o (drop (length s) s))
-  unfolding front
-  none-left = rw (drop-length s) tt
-
   pub reads : 24 ≤ length s → Read o s (framesOf o s)
   reads h =
       let g = gives 24 h in
       record {
         chain = g .chain;
         covers = sym (take-append-drop 24 s) ∙ ap (λ t. take 24 s ++ t) (joined 24 (framesOf o s .pieces) (framesOf o s .stop) (g .chain));
-        stops = (g .last, g .none);
-        only = λ ps end c z. let e = only-these 24 ps end c z in (sym (ap (λ f. f .pieces) e), sym (ap (λ f. f .stop) e));
-        all = λ ps c. let e = only-these 24 ps (length s) c none-left in (sym (ap (λ f. f .pieces) e), ap (λ f. f .stop) e);
+        stops = (g .last, stops-bad (framesOf o s .stop) (g .none));
+        only = λ ps end c z. let e = only-these 24 ps end c (bad-stops end z) in (sym (ap (λ f. f .pieces) e), sym (ap (λ f. f .stop) e));
+        all = λ ps c. let e = only-these 24 ps (length s) c (bad-stops (length s) (inl (omega arith))) in (sym (ap (λ f. f .pieces) e), ap (λ f. f .stop) e);
       }

@@ -1,16 +1,14 @@
 -- What the frames of a capture are, said without reading them. `proofs/Whole.antt` shows that `frames` gives these and no others.
-use Prim.Native.Nat.{ℕ, _+_, _-_, _≤_}
+use Prim.Native.Nat.{ℕ, _+_, _-_, _≤_, _<_}
 use mathlib.Core.Path.{_≡_}
 use mathlib.Core.List.{List, [], _∷_, _++_}
 use mathlib.Core.Logic.{_⊎_}
 use lib.ListN.{length, take, drop}
 use Rattle.capture.specs.declared.Order.{Order}
-use Rattle.capture.specs.declared.Front.{Front}
-use Rattle.capture.specs.declared.Front.the-variants.{Whole, Past, Over}
 use Rattle.error.specs.declared.Refusal.{Refusal}
 use Rattle.error.specs.declared.Refusal.the-variants.{CutFrame}
 use Rattle.error.specs.Answer.{refused, done}
-use Rattle.capture.specs.Capture.{numberAt, front, Piece, piece, part, Frames, stopped, given, frames, orderOf, frameAt}
+use Rattle.capture.specs.Capture.{numberAt, Piece, piece, part, Frames, stopped, given, frames, frameAt}
 
 -- the file header, read in an order: 24 bytes, of which the first four are one of the marks
 pub record Marked (o : Order) (s : List ℕ) : Type 0 where
@@ -29,11 +27,9 @@ abbrev pub Chain : Order → List ℕ → ℕ → List Piece → ℕ → Type 0
 Chain o s at [] end = at ≡ end
 Chain o s at (p ∷ ps) end = Good o s at p × Chain o s (p .place + p .size) ps end
 
--- no whole frame stands at the front
-abbrev pub Stops : Front → Type 0
-Stops (Whole n) = ⊥
-Stops Past = Unit {0}
-Stops Over = Unit {0}
+-- a "header or body that runs past the file or is over 65,535 bytes" begins at a place, or the file ends there
+abbrev pub Bad : Order → List ℕ → ℕ → Type 0
+Bad o s at = (length s < at + 16) ⊎ ((length s < at + 16 + numberAt o (at + 8) s) ⊎ (65535 < numberAt o (at + 8) s))
 
 -- the bytes of frames with their headers, one after the other
 abbrev pub bytesOf : List ℕ → List Piece → List ℕ
@@ -47,15 +43,15 @@ pub record Read (o : Order) (s : List ℕ) (fs : Frames) : Type 0 where
   pub chain : Chain o s 24 (fs .pieces) (fs .stop)
   -- nothing of the file is skipped or read twice
   pub covers : s ≡ take 24 s ++ (bytesOf s (fs .pieces) ++ drop (fs .stop) s)
-  -- reading stops within the file, where no whole frame stands
-  pub stops : (fs .stop ≤ length s) × Stops (front o (drop (fs .stop) s))
-  -- the frames given are the only ones: whatever frames follow each other from the file header to where no whole frame stands are these
-  pub only : (ps : List Piece) (end : ℕ) → Chain o s 24 ps end → Stops (front o (drop end s)) → (ps ≡ fs .pieces) × (end ≡ fs .stop)
+  -- reading stops at the end of the file or before it, at the first header or body that is bad
+  pub stops : (fs .stop ≤ length s) × Bad o s (fs .stop)
+  -- the frames given are the only ones: whatever frames follow each other from the file header to a bad one or the end are these
+  pub only : (ps : List Piece) (end : ℕ) → Chain o s 24 ps end → Bad o s end → (ps ≡ fs .pieces) × (end ≡ fs .stop)
   -- they are all of them exactly where reading stops at the end: only then do frames reach from the file header to the end
   pub all : (ps : List Piece) → Chain o s 24 ps (length s) → (ps ≡ fs .pieces) × (fs .stop ≡ length s)
 
--- one frame at a time, of a capture s whose numbers are in an order: from a place within it, its frames are the one there and those from its
--- end on, or none
+-- one frame at a time, of a capture s whose numbers are in an order: the frames from a place on are the one there and those from its end on,
+-- or none
 pub record Walked (o : Order) (s : List ℕ) (at : ℕ) : Type 0 where
   pub next : (n : ℕ) → frameAt s at ≡ done n → frames o at (drop at s) ≡ given (piece (at + 16) n) (frames o (at + 16 + n) (drop (at + 16 + n) s))
   pub last : (r : Refusal) → frameAt s at ≡ refused r → (r ≡ CutFrame) × (frames o at (drop at s) ≡ stopped at)

@@ -3,8 +3,10 @@ use Prim.Native.Nat.{ℕ, _+_, _≤_}
 use mathlib.Core.Path.{_≡_}
 use mathlib.Core.List.{List, [], _∷_, _++_}
 use mathlib.Core.Bool.{cond}
+use mathlib.Core.Logic.{_⊎_}
 use lib.ListN.{length, drop}
 use lib.Dec.{ltb, eqb}
+use Rattle.error.specs.declared.Refusal.{Refusal}
 use Rattle.error.specs.declared.Refusal.the-variants.{NoCapture, CutFrame}
 use Rattle.error.specs.Answer.{Out, refused, done}
 use Rattle.ast.specs.declared.LinkType.{LinkType}
@@ -101,4 +103,4 @@ pub record InTurn (P : List ℕ) (link : LinkType) : Type 0 where
   -- no window reads beyond its bytes
   pub within : (g : Stage) (w : List ℕ) → step P link g w .tally .stop ≤ length w
   -- a header of 16 bytes and a frame of 65,535 always have room in 65,551 bytes: there a window uses some, or reading is turned down
-  pub moves : (o : Order) (w : List ℕ) → 65551 ≤ length w → step P link (Within o) w .stage ≡ Within o → 1 ≤ step P link (Within o) w .tally .stop
+  pub moves : (g : Stage) (w : List ℕ) → 65551 ≤ length w → (1 ≤ step P link g w .tally .stop) ⊎ ((r : Refusal) × (step P link g w .stage ≡ Turned r))

@@ -16,7 +16,7 @@ ghost use Rattle.capture.specs.Promises.{openedOf, framedOf};
 // The bytes of a file header and of a frame header.
 const FILE_HEADER: usize = 24;
 
-pub const FRAME_HEADER: usize = 16;
+const FRAME_HEADER: usize = 16;
 
 // The places of the link in a file header and of the captured length in a frame header.
 const LINK: usize = 20;
@@ -229,7 +229,8 @@ fn accepts(program: &[u8], frame: &[u8]) -> bool
 }
 
 // Reads a byte of every 128 of a frame, so that the processor foresees what follows: where the next header stands is known from this
-// one alone, and each would be waited for. What is read decides nothing, which a compiler that might leave it out does not know.
+// one alone, and each would be waited for. The sum is always below the bound, which the compiler does not see, so that it keeps the
+// reads.
 fn fetched(frame: &[u8]) -> bool
     requires { ⌜ length (now frame) ≤ 65535 ⌝ }
     ensures { λ r. ⌜ r ≡ true ⌝ }

@@ -25,7 +25,7 @@ use Rattle.capture.specs.declared.Tally.{Tally}
 use Rattle.capture.specs.declared.CountResult.{CountResult}
 use Rattle.capture.specs.declared.CountResult.the-variants.{Count, Refused}
 use Rattle.capture.specs.Capture.{opened, framesOf}
-use Rattle.capture.specs.Counting.{none, tallyOf, ended, over, counted, framesIn}
+use Rattle.capture.specs.Counting.{none, tallyOf, over, counted, framesIn}
 use Rattle.capture.proofs.Coded.{opened-long}
 use Rattle.capture.proofs.Joins.{Few, tally-few}
 use Rattle.count.specs.Count.{linked, after, count}

@@ -1,5 +1,5 @@
 -- What T-01 promises of a count holds of every tree file, buffer and capture.
-use Prim.Native.Nat.{ℕ, _+_, _-_, _*_, _≤_, _<_}
+use Prim.Native.Nat.{ℕ, _+_, _-_, _≤_, _<_}
 use mathlib.Core.Path.{_≡_, refl, sym, ap, _∙_}
 use mathlib.Core.List.{List, [], _∷_}
 use mathlib.Core.Bool.{Bool, true, false, _&&_}
@@ -9,8 +9,8 @@ use borrow.Author.Tests.{leb-true, ltb-true, ltb-false, lt-ltb, le-ltb}
 use lib.ListN.{length, take, drop, getD, length-take, length-drop, List·getD-eq-default}
 use lib.Seq.{getD-drop, getD-take, take-length}
 use lib.Dec.{ltb}
-use Rattle.error.specs.declared.Refusal.{Refusal}
-use Rattle.error.specs.Answer.{Out, refused, done}
+use Rattle.error.specs.declared.Refusal.the-variants.{CutFrame}
+use Rattle.error.specs.Answer.{done}
 use Rattle.bpf.specs.Bytes.{AreBytes}
 use Rattle.vm.specs.declared.Verdict.{Verdict}
 use Rattle.vm.specs.declared.Verdict.the-variants.{Accepted, Dropped, Short, Broken}
@@ -22,20 +22,19 @@ use Rattle.ast.specs.File.{header}
 use Rattle.direct.specs.declared.DirectResult.{DirectResult}
 use Rattle.direct.specs.declared.DirectResult.the-variants as D
 use Rattle.direct.specs.Reading.{networkStart}
-use Rattle.build.specs.Build.{build}
 use Rattle.build.specs.Demands as B
 use Rattle.build.specs.Demands.{Answers, programOf, Frame, HasVerdict}
 use Rattle.build.proofs.Demands as Base
 use Rattle.build.proofs.Demands.{demands}
 use Rattle.capture.specs.declared.Order.{Order}
-use Rattle.capture.specs.Capture.{numberAt, fieldOf, orderOf, opened, Piece, part, Frames, framesOf}
-use Rattle.capture.specs.Counting.{isAccepted, accepted, passing, tallyOf, ended, counted}
+use Rattle.capture.specs.declared.CountResult.the-variants.{Count, Refused}
+use Rattle.capture.specs.Capture.{numberAt, fieldOf, Piece, part, Frames, framesOf}
+use Rattle.capture.specs.Counting.{isAccepted, accepted, passing, tallyOf, ended, counted, refusalOf}
 use Rattle.capture.specs.Reads.{Marked, Chain}
-use Rattle.capture.specs.Turns.{reading, unread, finished, concat}
-use Rattle.capture.proofs.Coded.{order-long}
 use Rattle.capture.proofs.Headers.{marked-order, unmarked, opened-unmarked, opened-other, opened-same, walked}
 use Rattle.capture.proofs.Whole.{reads}
 use Rattle.capture.proofs.Turning.{in-turn}
+use Rattle.capture.proofs.Untested.{untested}
 use Rattle.count.specs.Count.{linked, count}
 use Rattle.count.specs.Counts.{Calls, Kept, keeps, isTrue, holds, reaches, Every, tallied, Counted, Linked, Counts}
 use Rattle.count.proofs.Answers.{count-own, count-linked, count-buffer}
@@ -99,17 +98,21 @@ all-pieces q f (p ∷ ps) = (f p, all-pieces q f ps)
 
 -- ---- of a tree file and a capture
 
+-- the answer for an accepted tree, of the definitions
+answered : (T : List ℕ) (c : Calls) → Kept T c → (lent n : ℕ) → Answers (c .base) lent n → (link : LinkType) → header T ≡ done link → (s : List ℕ)
+    → c .answer lent s ≡ counted (programOf (c .base) lent n) link s
+answered T c k lent n a link e s =
+    k .answers lent s
+    ∙ count-linked T lent s n (sym (k .base .answers lent) ∙ a)
+    ∙ rw (e, ← k .base .leaves lent)
+
 module _ (T : List ℕ) (zT : AreBytes T) (c : Calls) (k : Kept T c) (lent : ℕ) (s : List ℕ) (zS : AreBytes s) where
   module _ (n : ℕ) (a : Answers (c .base) lent n) (link : LinkType) (e : header T ≡ done link) where
     abbrev P : List ℕ
     P = programOf (c .base) lent n
 
-    -- the answer, of the definitions
-    answer-is : c .answer lent s ≡ counted P link s
-    answer-is =
-        k .answers lent s
-        ∙ count-linked T lent s n (sym (k .base .answers lent) ∙ a)
-        ∙ rw (e, ← k .base .leaves lent)
+    answer-is : (t : List ℕ) → c .answer lent t ≡ counted P link t
+    answer-is t = answered T c k lent n a link e t
 
     truth-at : (p : Piece) → length (part s p) ≡ p .size → p .size ≤ 65535 → networkStart link + 64 ≤ p .size → keeps c P (part s p) ≡ holds c (part s p)
     truth-at p l m r =
@@ -131,18 +134,36 @@ module _ (T : List ℕ) (zT : AreBytes T) (c : Calls) (k : Kept T c) (lent : ℕ
         let q = same-passing s (λ F. accepted (run P F)) (keeps c P) (fs .pieces) (all-pieces _ (λ p. ap accepted (sym (k .base .runs P (part s p)))) (fs .pieces)) in
         λ i. record { kept = q i; given = length (fs .pieces); stop = fs .stop }
 
+    module _ (fs : Frames) (x : c .answer lent s ≡ ended P s fs) where
+      whole-is : fs .stop ≡ length s → c .answer lent s ≡ Count (tallyOf P s fs)
+      whole-is w = x ∙ rw (le-ltb (fs .stop) (length s) (omega arith))
+
+      cut-is : fs .stop < length s → c .answer lent s ≡ Refused CutFrame (tallyOf P s fs)
+      cut-is w = x ∙ rw (lt-ltb (fs .stop) (length s) w)
+
+      to-end : ¬ (refusalOf (c .answer lent s) ≡ 14) → fs .stop ≤ length s → fs .stop ≡ length s
+      to-end h l = go (ltb (fs .stop) (length s)) refl
+        where
+          go : (b : Bool) → ltb (fs .stop) (length s) ≡ b → fs .stop ≡ length s
+          go true p = absurd (h (ap refusalOf (cut-is (ltb-true (fs .stop) (length s) p))))
+          go false p = omega (arith, ltb-false (fs .stop) (length s) p)
+
     counted-at : (o : Order) → Marked o s → numberAt o 20 s ≡ fieldOf link → Counted c lent P link o s
     unfolding counted
     counted-at o m l =
         let h = marked-order o s zS m in
         let r = reads o s (m .long) in
         let fs = framesOf o s in
-        let x : c .answer lent s ≡ ended P s fs = answer-is ∙ rw (opened-same s link o h l) in
+        let x : c .answer lent s ≡ ended P s fs = answer-is s ∙ rw (opened-same s link o h l) in
         record {
           read = r;
           walked = λ at. walked o s at h;
-          whole = λ w. x ∙ rw (le-ltb (fs .stop) (length s) (omega arith), tallied-is fs);
-          cut = λ w. x ∙ rw (lt-ltb (fs .stop) (length s) w, tallied-is fs);
+          whole = λ w. whole-is fs x w ∙ rw (tallied-is fs);
+          cut = λ w. cut-is fs x w ∙ rw (tallied-is fs);
+          all = (
+            λ ps. λ e. let z : _≡_ {A = ℕ} 0 14 = sym (ap refusalOf (whole-is fs x (r .all (ps .0) (ps .1) .1))) ∙ e in absurd (omega arith),
+            λ h. (fs .pieces, rw (to-end fs x h (r .stops .0)) at (r .chain)),
+          );
           gets = λ F. has-verdict (c .base .ran P F);
           truth = every o s _ (λ p l m w. truth-at p l m w) 24 (fs .pieces) (fs .stop) (r .chain);
           truths = same-passing s _ _ (fs .pieces) (every o s _ both-at 24 (fs .pieces) (fs .stop) (r .chain));
@@ -152,10 +173,11 @@ module _ (T : List ℕ) (zT : AreBytes T) (c : Calls) (k : Kept T c) (lent : ℕ
     unfolding counted
     linked-at =
         record {
-          unmarked = λ h. answer-is ∙ rw (opened-unmarked s link (unmarked s h));
-          other = λ o m h. answer-is ∙ rw (opened-other s link o (marked-order o s zS m) h);
+          unmarked = λ h. answer-is s ∙ rw (opened-unmarked s link (unmarked s h));
+          other = λ o m h. answer-is s ∙ rw (opened-other s link o (marked-order o s zS m) h);
+          untested = λ t m b. answer-is t ∙ untested P link s t m b ∙ sym (answer-is s);
           counted = counted-at;
-          turns = λ cuts h. in-turn P link .same cuts ∙ rw h (sym answer-is);
+          turns = λ cuts h. in-turn P link .same cuts ∙ rw h (sym (answer-is s));
         }
 
   -- an accepted tree has a link

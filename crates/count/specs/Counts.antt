@@ -5,7 +5,7 @@ use mathlib.Core.Path.{_≡_}
 use mathlib.Core.List.{List, [], _∷_}
 use mathlib.Core.Bool.{Bool, true, false, _&&_}
 use mathlib.Core.Logic.{_↔_}
-use lib.ListN.{length, replicate}
+use lib.ListN.{length, take, drop, replicate}
 use lib.Dec.{leb}
 use Rattle.error.specs.declared.Refusal.{Refusal}
 use Rattle.error.specs.declared.Refusal.the-variants.{NoCapture, OtherLink, CutFrame}
@@ -23,8 +23,8 @@ use Rattle.capture.specs.declared.Tally.{Tally}
 use Rattle.capture.specs.declared.CountResult.{CountResult}
 use Rattle.capture.specs.declared.CountResult.the-variants.{Count, Refused}
 use Rattle.capture.specs.Capture.{numberAt, fieldOf, Piece, part, Frames, framesOf}
-use Rattle.capture.specs.Counting.{accepted, passing, none}
-use Rattle.capture.specs.Reads.{Marked, Read, Walked}
+use Rattle.capture.specs.Counting.{accepted, passing, none, refusalOf}
+use Rattle.capture.specs.Reads.{Marked, Chain, Read, Walked}
 use Rattle.capture.specs.Turns.{reading, unread, finished, concat}
 use Rattle.count.specs.Count.{count}
 
@@ -80,6 +80,8 @@ pub record Counted (c : Calls) (lent : ℕ) (P : List ℕ) (link : LinkType) (o 
   pub whole : framesOf o s .stop ≡ length s → c .answer lent s ≡ Count (tallied c P s (framesOf o s))
   -- "14 "cut frame" at the first frame header or body that runs past the file or is over 65,535 bytes"
   pub cut : framesOf o s .stop < length s → c .answer lent s ≡ Refused CutFrame (tallied c P s (framesOf o s))
+  -- the frames given are all of them exactly where there is no 14: only then do frames reach from the file header to the end
+  pub all : ((ps : List Piece) × Chain o s 24 ps (length s)) ↔ (¬ (refusalOf (c .answer lent s) ≡ 14))
   -- a frame is counted exactly when the run over it gets accepted,
   pub gets : (F : List ℕ) → (keeps c P F ≡ true) ↔ Gets (c .base) P F Accepted
   -- and a frame that reaches 64 bytes past the network start exactly when T, read directly on it, is true: as many are kept as are true
@@ -93,6 +95,8 @@ pub record Linked (c : Calls) (lent : ℕ) (P : List ℕ) (link : LinkType) (s :
   pub unmarked : ((o : Order) → ¬ Marked o s) → c .answer lent s ≡ Refused NoCapture none
   -- "13 "other link" when the link isn't the tree's": in all 32 bits of the field
   pub other : (o : Order) → Marked o s → ¬ (numberAt o 20 s ≡ fieldOf link) → c .answer lent s ≡ Refused OtherLink none
+  -- "the other header fields aren't tested": nothing of the file header between the mark, its first four bytes, and the link, its last, matters
+  pub untested : (t : List ℕ) → take 4 t ≡ take 4 s → drop 20 t ≡ drop 20 s → c .answer lent t ≡ c .answer lent s
   -- then the frames
   pub counted : (o : Order) → Marked o s → numberAt o 20 s ≡ fieldOf link → Counted c lent P link o s
   -- however the capture is cut, its windows in turn count what the whole counts, refusals included

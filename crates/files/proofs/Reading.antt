@@ -1,13 +1,15 @@
 -- A capture that is read in windows of one buffer.
-use Prim.Native.Nat.{ℕ, _+_, _-_, _*_, _≤_, _<_}
+use Prim.Native.Nat.{ℕ, _+_, _-_, _≤_, _<_}
 use mathlib.Core.Path.{_≡_, refl, sym, ap, _∙_}
 use mathlib.Core.List.{List, [], _∷_, _++_}
 use mathlib.Core.Bool.{Bool, true, false, cond, true≢false}
+use mathlib.Core.Logic.{_⊎_, inl, inr}
 use native.Mathlib.Omega.{arith}
-use borrow.Author.Tests.{le-ltb, ltb-true, ltb-false}
+use borrow.Author.Tests.{ltb-true, ltb-false}
 use lib.ListN.{length, take, drop}
 use lib.Seq.{length-take-le, take-add, drop-at}
 use lib.Dec.{ltb}
+use Rattle.error.specs.declared.Refusal.{Refusal}
 use Rattle.error.specs.Answer.{Out, refused, done}
 use Rattle.ast.specs.declared.LinkType.{LinkType}
 use Rattle.capture.specs.declared.Order.{Order}
@@ -15,11 +17,9 @@ use Rattle.capture.specs.declared.Tally.{Tally}
 use Rattle.capture.specs.declared.Stage.{Stage}
 use Rattle.capture.specs.declared.Stage.the-variants.{Header, Within, Turned}
 use Rattle.capture.specs.declared.Step.{Step}
-use Rattle.capture.specs.declared.Front.{Front}
-use Rattle.capture.specs.declared.Front.the-variants.{Whole, Past, Over}
-use Rattle.capture.specs.Capture.{opened, front, frames}
+use Rattle.capture.specs.Capture.{opened}
 use Rattle.capture.specs.Counting.{counted}
-use Rattle.capture.specs.Turns.{awaits, window, sum, stay, begin, step, Reading, more, reading, unread, finish, finished, concat}
+use Rattle.capture.specs.Turns.{window, sum, stay, begin, step, Reading, more, reading, unread, finish, finished, concat}
 use Rattle.capture.proofs.Joins.{tally-few}
 use Rattle.capture.proofs.Turning.{step-few, in-turn}
 use Rattle.files.specs.declared.windows.Progress.{Progress}
@@ -88,21 +88,13 @@ module _ (P : List ℕ) (link : LinkType) where
 
   -- ---- room for a read
 
-  not-turned : (o : Order) (f : Front) → isTurned (awaits o f) ≡ false → awaits o f ≡ Within o
-  not-turned o (Whole n) e = refl
-  not-turned o Past e = refl
-  not-turned o Over e = let z : _≡_ {A = Bool} true false = e in absurd (true≢false z)
-
-  begins : (w : List ℕ) (x : Out Order) → isTurned (begin P w x .stage) ≡ false → 1 ≤ begin P w x .tally .stop
-  begins w (refused r) e = absurd (true≢false e)
-  begins w (done o) e = omega arith
-
   -- a window of as many bytes as the longest frame has with its header: some are used, or reading is turned down
   pub moves-on : (g : Stage) (w : List ℕ) → 65551 ≤ length w → isTurned (step P link g w .stage) ≡ false → 1 ≤ step P link g w .tally .stop
-  unfolding step window
-  moves-on Header w h e = let k = le-ltb (length w) 24 (omega arith) in rw k (begins w (opened link w) (rw k at e))
-  moves-on (Within o) w h e = in-turn P link .moves o w h (not-turned o (front o (drop (frames o 0 w .stop) w)) e)
-  moves-on (Turned r) w h e = absurd (true≢false e)
+  moves-on g w h e = go (in-turn P link .moves g w h)
+    where
+      go : ((1 ≤ step P link g w .tally .stop) ⊎ ((r : Refusal) × (step P link g w .stage ≡ Turned r))) → 1 ≤ step P link g w .tally .stop
+      go (inl m) = m
+      go (inr t) = absurd (true≢false (sym (ap isTurned (t .1)) ∙ e))
 
   -- ---- windows in turn
 

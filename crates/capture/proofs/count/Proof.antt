@@ -1,7 +1,6 @@
 use Rattle.capture.proofs.Turning.{step-few, one-window}
 use Rattle.capture.specs.declared.Stage.the-variants.{Header}
 use mathlib.Core.Path.{_∙_}
-use native.Mathlib.Omega.{arith}
 use borrow.Author.Needs.{needs}
 use Rattle.capture.proofs.count.Statement.{statement}
 use Rattle.capture.proofs.count.Tie as tie

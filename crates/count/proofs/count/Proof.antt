@@ -1,10 +1,9 @@
 use Rattle.count.proofs.Answers.{link-in, link-refused, fits, count-own, count-linked, count-buffer}
-use Rattle.count.specs.Count.{linked}
 use Rattle.ast.specs.File.{header}
 use Rattle.bpf.specs.Bytes.{AreBytes}
-use lib.ListN.{length, take, length-take}
-use Prim.Native.Nat.{_*_, _≤_}
-use mathlib.Core.Path.{_≡_, sym, ap, _∙_}
+use lib.ListN.{length, length-take}
+use Prim.Native.Nat.{_*_}
+use mathlib.Core.Path.{sym, _∙_}
 use native.Mathlib.Omega.{arith}
 use borrow.Author.Needs.{needs}
 use Rattle.count.proofs.count.Statement.{statement}

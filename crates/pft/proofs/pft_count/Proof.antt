@@ -2,7 +2,7 @@ use Rattle.count.specs.Count.{count}
 use Rattle.count.proofs.Answers.{count-small}
 use Rattle.capture.specs.Counting.{framesIn}
 use lib.ListN.{length}
-use mathlib.Core.Path.{_≡_, ap, sym, _∙_}
+use mathlib.Core.Path.{ap, sym, _∙_}
 use native.Mathlib.Omega.{arith}
 use native.Mathlib.Nat.{zero-add}
 use borrow.Author.Needs.{needs}

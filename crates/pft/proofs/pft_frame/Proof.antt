@@ -1,6 +1,5 @@
 use Rattle.pft.proofs.Numbers.{framed-size, framed-refused}
 use Rattle.capture.specs.Capture.{frameAt}
-use mathlib.Core.Path.{_∙_}
 use native.Mathlib.Omega.{arith}
 use borrow.Author.Needs.{needs}
 use Rattle.pft.proofs.pft_frame.Statement.{statement}

@@ -3,7 +3,6 @@ use borrow.Author.Needs.{needs}
 use Prim.Native.Nat.{_-_, _≤_}
 use mathlib.Core.Path.{_≡_}
 use native.Mathlib.Omega.{arith}
-use lib.ListN.{length}
 use Rattle.files.proofs.Moving.{Moved, none-moved, one-moved}
 use Rattle.files.proofs.windows.move_front.Statement.{statement}
 use Rattle.files.proofs.windows.move_front.Tie as tie

@@ -1,0 +1,29 @@
+-- Answers of T-01 as C gets them, computed: refusal × 2^32 + accepted frames, or + captured length.
+use mathlib.Core.Path.{_≡_, refl}
+use mathlib.Core.List.{List, [], _∷_}
+use Prim.Native.Nat.{ℕ}
+use Rattle.error.specs.declared.Refusal.the-variants.{StrangeFile, NoCapture, OtherLink, CutFrame}
+use Rattle.error.specs.Answer.{refused, done}
+use Rattle.capture.specs.declared.Tally.{Tally}
+use Rattle.capture.specs.declared.CountResult.the-variants.{Count, Refused}
+use Rattle.capture.specs.Counting.{none}
+use Rattle.pft.specs.Numbers.{countNumber, frameNumber}
+
+-- 3 of 5 frames are kept
+three : Tally
+three = record { kept = 3; given = 5; stop = 1000 }
+
+counts : List ℕ
+counts =
+    countNumber (Count three) ∷ countNumber (Refused CutFrame three) ∷ countNumber (Refused NoCapture none) ∷ countNumber (Refused OtherLink none) ∷ countNumber (Refused StrangeFile none) ∷ []
+
+counts-are : counts ≡ (0x3 ∷ 0xe00000003 ∷ 0xc00000000 ∷ 0xd00000000 ∷ 0x100000000 ∷ [])
+unfolding counts three
+counts-are = refl
+
+frames : List ℕ
+frames = frameNumber (done 60) ∷ frameNumber (refused NoCapture) ∷ frameNumber (refused CutFrame) ∷ []
+
+frames-are : frames ≡ (60 ∷ 0xc00000000 ∷ 0xe00000000 ∷ [])
+unfolding frames
+frames-are = refl
