@@ -42,18 +42,13 @@ is-mark n e = go (eqb n 0xa1b2c3d4) refl (eqb n 0xa1b23c4d) refl e
 -- no four bytes are a mark in both orders
 one-order : (s : List ℕ) → AreBytes s → Mark (numberAt Little 0 s) → isMark (numberAt Big 0 s) ≡ false
 unfolding be leAt
-one-order s z (inl e) =
-    let a = z 0 in
-    let b = z 1 in
-    let c = z 2 in
-    let d = z 3 in
-    rw (ne-eqb (numberAt Big 0 s) 0xa1b2c3d4 (λ h. omega arith), ne-eqb (numberAt Big 0 s) 0xa1b23c4d (λ h. omega arith))
-one-order s z (inr e) =
-    let a = z 0 in
-    let b = z 1 in
-    let c = z 2 in
-    let d = z 3 in
-    rw (ne-eqb (numberAt Big 0 s) 0xa1b2c3d4 (λ h. omega arith), ne-eqb (numberAt Big 0 s) 0xa1b23c4d (λ h. omega arith))
+one-order s z m = rw (ne-eqb (numberAt Big 0 s) 0xa1b2c3d4 (λ h. no (inl h) m), ne-eqb (numberAt Big 0 s) 0xa1b23c4d (λ h. no (inr h) m))
+  where
+    no : Mark (numberAt Big 0 s) → Mark (numberAt Little 0 s) → ⊥
+    no (inl h) (inl e) = omega (arith, z 0, z 1, z 2, z 3)
+    no (inl h) (inr e) = omega (arith, z 0, z 1, z 2, z 3)
+    no (inr h) (inl e) = omega (arith, z 0, z 1, z 2, z 3)
+    no (inr h) (inr e) = omega (arith, z 0, z 1, z 2, z 3)
 
 pub marked-order : (o : Order) (s : List ℕ) → AreBytes s → Marked o s → orderOf s ≡ done o
 unfolding orderOf

@@ -13,6 +13,7 @@ use Rattle.capture.specs.Capture.{front, Piece, piece, part, Frames, sto
 use Rattle.capture.specs.Counting.{keeps, passing, tallyOf}
 use Rattle.capture.specs.Turns.{window, sum}
 use Rattle.capture.specs.Reads.{Chain}
+use Rattle.capture.specs.Promises.{Sound}
 use Rattle.capture.proofs.Laws.{Stops, Fits, front-prefix, frames-stop, frames-whole, by-frames}
 use Rattle.capture.proofs.Whole.{gives}
 
@@ -80,20 +81,10 @@ chain-few : (o : Order) (s : List ℕ) (at : ℕ) (ps : List Piece) (end : ℕ) 
 chain-few o s at [] end c = omega arith
 chain-few o s at (p ∷ ps) end c = omega (arith, chain-few o s (p .place + p .size) ps end (c .1), c .0 .behind)
 
-pub record Few (s : List ℕ) (t : Tally) : Type 0 where
-  pub kept : t .kept ≤ t .given
-  pub given : 16 * t .given ≤ t .stop
-  pub stop : t .stop ≤ length s
-
-pub tally-few : (P : List ℕ) (o : Order) (s : List ℕ) (at : ℕ) → at ≤ length s → Few s (tallyOf P s (frames o at (drop at s)))
-tally-few P o s at h =
+pub tally-sound : (P : List ℕ) (o : Order) (s : List ℕ) (at : ℕ) → at ≤ length s → Sound (tallyOf P s (frames o at (drop at s)))
+tally-sound P o s at h =
     let fs = frames o at (drop at s) in
-    let g = gives o s at h in
-    record {
-      kept = passing-few (keeps P) s (fs .pieces);
-      given = omega (arith, chain-few o s at (fs .pieces) (fs .stop) (g .chain));
-      stop = g .last;
-    }
+    record { kept = passing-few (keeps P) s (fs .pieces); given = omega (arith, chain-few o s at (fs .pieces) (fs .stop) (gives o s at h .chain)) }
 
 pub window-few : (P : List ℕ) (o : Order) (w : List ℕ) → window P o w .tally .stop ≤ length w
 unfolding window

@@ -12,7 +12,8 @@ use Rattle.capture.specs.declared.Front.the-variants.{Whole}
 use Rattle.capture.specs.Capture.{numberAt, front, piece, part, frames}
 use Rattle.capture.specs.Counting.{keeps, passing, tallyOf}
 use Rattle.capture.specs.Turns.{awaits, window}
-use Rattle.capture.proofs.Numbers.{number-drop}
+use Rattle.capture.specs.Reads.{Good}
+use Rattle.capture.proofs.Whole.{good}
 use Rattle.capture.proofs.Joins.{bit-few}
 use Rattle.capture.proofs.Laws.{Stops, front-fits, frames-stop, frames-whole}
 
@@ -29,17 +30,10 @@ pub passed-none : {P : List ℕ} {o : Order} {w : List ℕ} → Passed P o w 0 0
 passed-none = record { within = omega arith; few = omega arith; headers = omega arith; keeping = omega arith; giving = omega arith; stop = refl }
 
 -- a whole frame at a place of the window
-pub record At (o : Order) (w : List ℕ) (at n : ℕ) : Type 0 where
-  pub captured : n ≡ numberAt o (at + 8) w
-  pub most : n ≤ 65535
-  pub within : at + 16 + n ≤ length w
+pub whole-at : (o : Order) (w : List ℕ) (at n : ℕ) → front o (drop at w) ≡ Whole n → Good o w at (piece (at + 16) n)
+whole-at o w at n e = good o w at n (front-fits o (drop at w) n e)
 
-pub whole-at : (o : Order) (w : List ℕ) (at n : ℕ) → front o (drop at w) ≡ Whole n → At o w at n
-whole-at o w at n e =
-    let f = front-fits o (drop at w) n e in
-    record { captured = f .captured ∙ number-drop o 8 at w; most = f .most; within = omega (arith, f .within, length-drop at w) }
-
-pub frame-few : (o : Order) (w : List ℕ) (at n : ℕ) → At o w at n → length (part w (piece (at + 16) (numberAt o (at + 8) w))) ≤ 65535
+pub frame-few : (o : Order) (w : List ℕ) (at n : ℕ) → Good o w at (piece (at + 16) n) → length (part w (piece (at + 16) (numberAt o (at + 8) w))) ≤ 65535
 frame-few o w at n f = omega (arith, f .captured, f .most, length-take (numberAt o (at + 8) w) (drop (at + 16) w))
 
 module _ {P : List ℕ} {o : Order} {w : List ℕ} {at kept given : ℕ} (h : Passed P o w at kept given) where

@@ -19,7 +19,7 @@ use Rattle.capture.proofs.Laws.{Stops, not-whole, Fits, front-fits, fit
 
 module _ (o : Order) (s : List ℕ) where
   -- the frame at a place, with the bytes from there on
-  good : (at n : ℕ) → Fits o (drop at s) n → Good o s at (piece (at + 16) n)
+  pub good : (at n : ℕ) → Fits o (drop at s) n → Good o s at (piece (at + 16) n)
   good at n f =
       record {
         behind = refl;

@@ -2,14 +2,14 @@
 use Prim.Native.Nat.{ℕ, _*_, _≤_}
 use mathlib.Core.Path.{_≡_, refl}
 use mathlib.Core.List.{List}
-use mathlib.Core.Bool.{Bool, true, false, cond}
+use mathlib.Core.Bool.{Bool, true, false}
 use native.Mathlib.Omega.{arith}
 use borrow.Author.Tests.{ltb-true, ltb-false}
 use lib.ListN.{length, take}
 use lib.Dec.{ltb}
 use Rattle.error.specs.declared.Refusal.{Refusal}
-use Rattle.error.specs.declared.Refusal.the-variants.{CutFrame}
 use Rattle.error.specs.Answer.{Out, refused, done}
+use Rattle.error.proofs.All.{either}
 use Rattle.bpf.specs.Bytes.{AreBytes}
 use Rattle.ast.specs.declared.LinkType.{LinkType}
 use Rattle.ast.specs.File.{header}
@@ -21,13 +21,13 @@ use Rattle.build.specs.declared.BuildResult.the-variants as B
 use Rattle.build.specs.Build.{build}
 use Rattle.build.proofs.Demands.{defined, kept, demands}
 use Rattle.capture.specs.declared.Order.{Order}
-use Rattle.capture.specs.declared.Tally.{Tally}
 use Rattle.capture.specs.declared.CountResult.{CountResult}
 use Rattle.capture.specs.declared.CountResult.the-variants.{Count, Refused}
 use Rattle.capture.specs.Capture.{opened, framesOf}
-use Rattle.capture.specs.Counting.{none, tallyOf, over, counted, framesIn}
+use Rattle.capture.specs.Counting.{none, tallyOf, ended, over, counted, framesIn}
 use Rattle.capture.proofs.Coded.{opened-long}
-use Rattle.capture.proofs.Joins.{Few, tally-few}
+use Rattle.capture.proofs.Whole.{gives}
+use Rattle.capture.proofs.Joins.{tally-sound}
 use Rattle.count.specs.Count.{linked, after, count}
 
 pub never : {A : Type 0} {r : Refusal} {n : ℕ} {b : BuildResult} → b ≡ B.Count n → b ≡ B.Refused r → A
@@ -68,16 +68,15 @@ module _ (T : List ℕ) (lent : ℕ) where
     abbrev Small : CountResult → Type 0
     Small a = 16 * framesIn a .kept ≤ length s
 
-    few-small : (t : Tally) → Few s t → 16 * t .kept ≤ length s
-    few-small t f = omega (arith, f .kept, f .given, f .stop)
-
-    ended-small : (P : List ℕ) (o : Order) → 24 ≤ length s → (b : Bool) → Small (cond b (Refused CutFrame (tallyOf P s (framesOf o s))) (Count (tallyOf P s (framesOf o s))))
-    ended-small P o h true = few-small (tallyOf P s (framesOf o s)) (tally-few P o s 24 h)
-    ended-small P o h false = few-small (tallyOf P s (framesOf o s)) (tally-few P o s 24 h)
+    ended-small : (P : List ℕ) (o : Order) → 24 ≤ length s → Small (ended P s (framesOf o s))
+    ended-small P o h =
+        let t = tally-sound P o s 24 h in
+        let k : 16 * tallyOf P s (framesOf o s) .kept ≤ length s = omega (arith, t .kept, t .given, gives o s 24 h .last) in
+        either Small (ltb (framesOf o s .stop) (length s)) k k
 
     over-small : (P : List ℕ) (x : Out Order) → ((o : Order) → x ≡ done o → 24 ≤ length s) → Small (over P s x)
     over-small P (refused r) h = omega arith
-    over-small P (done o) h = ended-small P o (h o refl) (ltb (framesOf o s .stop) (length s))
+    over-small P (done o) h = ended-small P o (h o refl)
 
     linked-small : (P : List ℕ) (x : Out LinkType) → Small (linked P s x)
     unfolding counted

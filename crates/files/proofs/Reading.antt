@@ -20,10 +20,11 @@ use Rattle.capture.specs.declared.Step.{Step}
 use Rattle.capture.specs.Capture.{opened}
 use Rattle.capture.specs.Counting.{counted}
 use Rattle.capture.specs.Turns.{window, sum, stay, begin, step, Reading, more, reading, unread, finish, finished, concat}
-use Rattle.capture.proofs.Joins.{tally-few}
+use Rattle.capture.specs.Promises.{Sound}
+use Rattle.capture.proofs.Joins.{tally-sound}
 use Rattle.capture.proofs.Turning.{step-few, in-turn}
 use Rattle.files.specs.declared.windows.Progress.{Progress}
-use Rattle.files.specs.Windows.{most, beginning, isTurned, held, behind, Sound, Used}
+use Rattle.files.specs.Windows.{most, beginning, isTurned, held, behind, Used}
 
 -- ---- tallies
 
@@ -40,7 +41,7 @@ joined p n b h = let k : p .left + (n - p .left) ≡ n = omega arith in sym (tak
 module _ (P : List ℕ) (link : LinkType) where
   window-sound : (o : Order) (w : List ℕ) → Sound (window P o w .tally)
   unfolding window
-  window-sound o w = let f = tally-few P o w 0 (omega arith) in record { kept = f .kept; given = f .given }
+  window-sound o w = tally-sound P o w 0 (omega arith)
 
   begin-sound : (w : List ℕ) (x : Out Order) → Sound (begin P w x .tally)
   begin-sound w (refused r) = none-sound

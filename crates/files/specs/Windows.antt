@@ -1,15 +1,15 @@
 -- What `pft count` knows of a capture between two reads, and at its end.
-use Prim.Native.Nat.{ℕ, _+_, _-_, _*_, _≤_}
+use Prim.Native.Nat.{ℕ, _+_, _-_}
 use mathlib.Core.Path.{_≡_}
 use mathlib.Core.List.{List}
 use mathlib.Core.Bool.{Bool, true, false}
 use lib.ListN.{take, drop}
 use Rattle.ast.specs.declared.LinkType.{LinkType}
-use Rattle.capture.specs.declared.Tally.{Tally}
 use Rattle.capture.specs.declared.Stage.{Stage}
 use Rattle.capture.specs.declared.Stage.the-variants.{Header, Within, Turned}
 use Rattle.capture.specs.Counting.{none, counted}
 use Rattle.capture.specs.Turns.{Reading, more}
+use Rattle.capture.specs.Promises.{Sound}
 use Rattle.files.specs.declared.windows.Progress.{Progress}
 use Rattle.files.specs.declared.windows.Counted.{Counted}
 use Rattle.files.specs.declared.windows.Counted.the-variants.{Read, Failed}
@@ -35,11 +35,6 @@ held p b = record { stage = p .stage; tally = p .tally; rest = take (p .left) b 
 -- what was read into the buffer behind them, up to a place
 abbrev pub behind : Progress → ℕ → List ℕ → List ℕ
 behind p n b = take (n - p .left) (drop (p .left) b)
-
--- each frame has a header of 16 bytes, so that no sum of frames wraps where no place does
-pub record Sound (t : Tally) : Type 0 where
-  pub kept : t .kept ≤ t .given
-  pub given : 16 * t .given ≤ t .stop
 
 -- a window of n bytes, used: the reading goes on by what was read, and all of it is either used or left
 pub record Used (P : List ℕ) (link : LinkType) (p : Progress) (n : ℕ) (b : List ℕ) (r : Progress) (c : List ℕ) : Type 0 where

@@ -8,7 +8,8 @@ ghost use mathlib.Core.Path.{_≡_};
 ghost use Prim.Native.Nat.{_+_, _-_, _^_, _≤_, _<_};
 ghost use lib.ListN.{length, take, drop};
 ghost use Rattle.capture.specs.Turns.{sum as T·sum, finish as T·finish};
-ghost use Rattle.files.specs.Windows.{beginning, isTurned, Sound, Used, Whole};
+ghost use Rattle.capture.specs.Promises.{Sound};
+ghost use Rattle.files.specs.Windows.{beginning, isTurned, Used, Whole};
 ghost use Rattle.files.specs.declared.windows.Counted.the-variants.{Read};
 
 // The most bytes that a file can have. Of a pipe that gives more nothing is counted.
