@@ -35,6 +35,7 @@ use Rattle.codegen.specs.Guards.{guards, setOf, primitiveGuards, require
 use Rattle.codegen.specs.Block.{half, jeq, Side, success, failure, leave, jt, test}
 use Rattle.codegen.specs.Block.{Block, settle, turn, otherwise}
 use Rattle.codegen.specs.Emit.{netOffset, etherProtoOffset, isRaw, Code, code, need, check, checkLoads, checkBlocks, checkIp6Addr, mask16, checkNet6, checkRange, checkMac, l4SetCheck, l4Check, header4, header6, fork, dualPath, Prologue, version, dual, emitEthertype, guarded, emitL4, emitIp4L4, emitIp6L4, emitRow, portPrereqs, ported, ether, emitPrimitive, hoistKnown, hoistPorts, orHoist, emit, restoredAfter}
+use Rattle.codegen.proofs.Nets6.{net-none}
 use Rattle.codegen.proofs.Semantics.{length-settle}
 use Rattle.codegen.proofs.KnownLaws.{Says, SaysPorts, says-ready, GuardsSay, union-says, intersect-left}
 use Rattle.codegen.proofs.Joins.{resolved-then}
@@ -121,13 +122,6 @@ pub record Shaped (N n : ℕ) (b : Block) : Type 0 where
   pub made : Made N 0 b
   pub size : length b ≤ n
 
--- bytes of a list, by place
--- past the prefix nothing is tested
-net6-end : (p at : ℕ) (ss : List ℕ) → p ≡ 0 → checkNet6 p at ss ≡ []
-unfolding checkNet6
-net6-end p at [] e = refl
-net6-end p at (s ∷ ss) e = rw e
-
 module _ {N : ℕ} where
   pub more : {n : ℕ} (m : ℕ) {b : Block} → n ≤ m → Shaped N n b → Shaped N m b
   more m l h = record { made = h .made; size = le-trans (h .size) l }
@@ -175,7 +169,7 @@ module _ {N : ℕ} where
       either (Shaped N (2 * suc (length ss) + 1)) (eqb p 0) (omega arith)
       (cases (λ b. Shaped N (2 * suc (length ss) + 1) (b ++ checkNet6 (p - 16) (at + 2) ss)) (leb 16 p)
       (λ e. more _ (omega arith) (joined {m = 2} {b = check half at s} (omega arith) k))
-      (λ e. rw (net6-end (p - 16) (at + 2) ss (omega (arith, leb-false 16 p e))) (omega (arith, and-le-l s (mask16 p)))))
+      (λ e. rw (net-none (p - 16) (at + 2) ss (omega (arith, leb-false 16 p e))) (omega (arith, and-le-l s (mask16 p)))))
 
   mac-shape : (a : List ℕ) (at : ℕ) → at + 6 ≤ N → Each Byte a → Shaped N 4 (checkMac a at)
   unfolding checkMac
