@@ -1,68 +1,38 @@
--- The segments of an address as far as a prefix reaches, one after another, and the table of the masks.
-use mathlib.Core.Path.{_≡_, refl, ap, _∙_}
+-- The tests of a net, one segment after another.
+use mathlib.Core.Path.{_≡_, ap₂, _∙_}
 use mathlib.Core.List.{List, [], _∷_, _++_}
-use Prim.Native.Nat.{ℕ, zero, suc, _+_, _*_, _-_, _^_, _<_, _≤_}
-use native.Mathlib.Omega.{arith}
+use Prim.Native.Nat.{ℕ, _+_, _<_, _≤_}
 use native.Mathlib.Numerals.{add-one}
-use native.Mathlib.Nat.{pow-succ', mul-assoc, one-le-pow, pow-le-pow-right}
-use borrow.Author.Tests.{eq-eqb, ne-eqb, le-leb, lt-leb}
-use lib.Bits.{bitAnd}
+use borrow.Author.Tests.{ne-eqb}
+use mir.Syntax.{w16}
+use mir.Val.{Val}
+use denote.Shadow.{shadow}
+use denote.Array.{each}
+use denote.Plain.{UInt}
 use lib.ListN.{length, getD, drop, drop-of-length-le}
 use lib.Seq.{drop-cons}
-use Rattle.codegen.specs.Block.{half, ldAbs, andK, op, Block}
-use Rattle.codegen.specs.Emit.{need, check, mask16, checkNet6}
+use Rattle.bpf.specs.Program.{Each}
+use Rattle.ast.proofs.Proper.{Half}
+use Rattle.codegen.specs.Block.{half}
+use Rattle.codegen.specs.Emit.{check}
+use Rattle.codegen.specs.Nets6.{lastTest, tests}
 
--- ---- powers of two
+-- the elements of an array of 16-bit numbers
+pub halves : (xs : List ℕ) (us : List Val) → shadow (each ℕ (UInt w16 .own) xs us) → Each Half xs
+halves [] us s = tt
+halves (x ∷ xs) [] s = absurd s
+halves (x ∷ xs) (u ∷ us) s = (s .0 .1, halves xs us (s .1))
 
--- n numbers, each the double of the one before
-abbrev doubles : ℕ → ℕ → List ℕ
-doubles x zero = []
-doubles x (suc n) = x ∷ doubles (x * 2) n
+module _ (ms es : List ℕ) (at i : ℕ) where
+  pub tests-more : i < length ms → i < length es → getD ms i 0 ≡ 0xffff
+      → tests (drop i ms) (drop i es) at ≡ check half at (getD es i 0) ++ tests (drop (i + 1) ms) (drop (i + 1) es) (at + 2)
+  unfolding tests
+  tests-more h k e = ap₂ (λ a b. tests a b at) (drop-cons ms i 0 h) (drop-cons es i 0 k) ∙ rw (e, add-one)
 
-double-at : (x n i : ℕ) → i < n → getD (doubles x n) i 0 ≡ x * 2 ^ i
-double-at x zero i h = absurd (omega arith)
-double-at x (suc n) zero h = omega arith
-double-at x (suc n) (suc i) h = double-at (x * 2) n i (omega arith) ∙ rw (pow-succ', mul-assoc)
+  pub tests-last : i < length ms → i < length es → (getD ms i 0 ≡ 0xffff → ⊥) → tests (drop i ms) (drop i es) at ≡ lastTest (getD ms i 0) (getD es i 0) at
+  unfolding tests
+  tests-last h k e = ap₂ (λ a b. tests a b at) (drop-cons ms i 0 h) (drop-cons es i 0 k) ∙ rw (ne-eqb (getD ms i 0) 0xffff e)
 
--- x is the power n, and within the bounds of a mask
-pub record Power (n x : ℕ) : Type 0 where
-  pub is : x ≡ 2 ^ n
-  pub some : 0 < x
-  pub most : x ≤ 65536
-
-pub power-at : (n : ℕ) → n < 17 → Power n (getD (doubles 1 17) n 0)
-power-at n h =
-    let e : getD (doubles 1 17) n 0 ≡ 2 ^ n = double-at 1 17 n h ∙ omega arith in
-    let s = one-le-pow n 2 (omega arith) in
-    let m : 2 ^ n ≤ 2 ^ 16 = pow-le-pow-right (omega arith) {i = n} {j = 16} (omega arith) in
-    record { is = e; some = omega arith; most = omega arith }
-
--- ---- one segment after another
-
--- a segment of which the first p bits count
-abbrev pub part : ℕ → ℕ → ℕ → Block
-part p at s = op (ldAbs half at) ∷ op (andK (mask16 p)) ∷ need (bitAnd s (mask16 p)) ∷ []
-
-pub net-zero : (p at : ℕ) (ss : List ℕ) → p ≡ 0 → checkNet6 p at ss ≡ []
-unfolding checkNet6
-net-zero p at [] e = refl
-net-zero p at (s ∷ ss) e = rw (eq-eqb p 0 e)
-
-part-cons : (p at s : ℕ) (ss : List ℕ) → 0 < p → p < 16 → checkNet6 p at (s ∷ ss) ≡ part p at s
-unfolding checkNet6
-part-cons p at s ss h k = rw (ne-eqb p 0 (omega arith), lt-leb 16 p k, net-zero (p - 16) (at + 2) ss (omega arith))
-
-more-cons : (p at s : ℕ) (ss : List ℕ) → 16 ≤ p → checkNet6 p at (s ∷ ss) ≡ check half at s ++ checkNet6 (p - 16) (at + 2) ss
-unfolding checkNet6
-more-cons p at s ss h = rw (ne-eqb p 0 (omega arith), le-leb 16 p h)
-
-module _ (p at : ℕ) (ss : List ℕ) (i : ℕ) where
-  pub net-part : i < length ss → 0 < p → p < 16 → checkNet6 p at (drop i ss) ≡ part p at (getD ss i 0)
-  net-part l h k = ap (checkNet6 p at) (drop-cons ss i 0 l) ∙ part-cons p at (getD ss i 0) (drop (suc i) ss) h k
-
-  pub net-more : i < length ss → 16 ≤ p → checkNet6 p at (drop i ss) ≡ check half at (getD ss i 0) ++ checkNet6 (p - 16) (at + 2) (drop (i + 1) ss)
-  net-more l h = ap (checkNet6 p at) (drop-cons ss i 0 l) ∙ rw add-one (more-cons p at (getD ss i 0) (drop (suc i) ss) h)
-
-  pub net-end : length ss ≤ i → checkNet6 p at (drop i ss) ≡ []
-  unfolding checkNet6
-  net-end h = rw (drop-of-length-le ss h)
+  pub tests-end : length ms ≤ i → tests (drop i ms) (drop i es) at ≡ []
+  unfolding tests
+  tests-end h = rw (drop-of-length-le ms h)

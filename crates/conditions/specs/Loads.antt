@@ -12,14 +12,13 @@ use Rattle.codegen.specs.declared.Known.{Known}
 use Rattle.codegen.specs.declared.Facts.{Facts}
 use Rattle.codegen.specs.Facts.{learnIp4, learnIp6}
 use Rattle.codegen.specs.Block.{half, word, andK, op, Block, opInsn}
-use Rattle.codegen.specs.Emit.{netOffset, Code, check, checkNet6, checkRange, ethertypeAt, header4, header6, l4Check, emitL4}
+use Rattle.codegen.specs.Emit.{netOffset, Code, check, checkRange, ethertypeAt, header4, header6, l4Check, emitL4}
 use Rattle.conditions.specs.declared.Mask.{Mask}
 use Rattle.conditions.specs.declared.Mask.the-variants.{Whole, Under}
 use Rattle.conditions.specs.declared.Version.{Version}
 use Rattle.conditions.specs.declared.Version.the-variants.{V4, V6}
 use Rattle.conditions.specs.declared.Shape.{Shape}
-use Rattle.conditions.specs.declared.Shape.the-variants.{Segments, Range, Mac}
-use Rattle.conditions.specs.declared.Wanted.{Wanted}
+use Rattle.conditions.specs.declared.Shape.the-variants.{Range, Mac}
 use Rattle.conditions.specs.declared.Offset.{Offset}
 use Rattle.conditions.specs.declared.Offset.the-variants.{Absent, At}
 use Rattle.emit.specs.declared.Patches.{Patches}
@@ -42,17 +41,15 @@ pub record Absolute (c at : ℕ) : Type 0 where
 abbrev pub macBlock : ℕ → ℕ → ℕ → Block
 macBlock four two at = check word at four ++ check half (at + 4) two
 
--- the block that tests an address or a port at a place
-abbrev pub wanted : Shape → Wanted → ℕ → Block
-wanted Segments w at = checkNet6 (w .low) at (w .segments)
-wanted Range w at = checkRange (w .low) (w .high) at
-wanted Mac w at = macBlock (w .low) (w .high) at
+-- the block that tests a port or an ether address at a place
+abbrev pub wanted : Shape → ℕ → Block
+wanted (Range lo hi) at = checkRange lo hi at
+wanted (Mac four two) at = macBlock four two at
 
 -- and its lines at most
 abbrev pub most : Shape → ℕ
-most Segments = 17
-most Range = 3
-most Mac = 4
+most (Range lo hi) = 3
+most (Mac four two) = 4
 
 -- source and destination exchanged
 abbrev pub turned : Dir → Dir

@@ -15,14 +15,16 @@ use emit::push;
 use emit::test_failure;
 use emit::test_success;
 use error::Refusal;
+use nets::Net6;
+use nets::net6_of;
 ghost use mathlib.Core.Path.{_≡_};
 ghost use mathlib.Core.List.{[], _∷_, _++_};
 ghost use Prim.Native.Nat.{_+_, _≤_, _<_};
-ghost use lib.Bits.{bitAnd};
-ghost use Rattle.codegen.specs.Block.{half, word, ldAbs, andK, op};
+ghost use Rattle.codegen.specs.Block.{half, word};
 ghost use Rattle.ast.specs.Tree.{EtherMulticast, IpBroadcast, IpMulticast, Ip6Multicast};
 ghost use Rattle.codegen.specs.Block as B;
 ghost use Rattle.codegen.specs.Emit as E;
+ghost use Rattle.codegen.specs.Nets6 as N;
 ghost use Rattle.emit.specs.Grown.{Room, Space, Place, Put, PutFailure, Grew, Reply, ReplyFailure};
 ghost use Rattle.conditions.specs.Loads as L;
 
@@ -32,18 +34,10 @@ pub enum Mask {
     Under(u32),
 }
 
-// A test of several loads: the segments of an IPv6 address as far as a prefix, a port range, or an ether address.
+// A test of several loads: low and high of a port range, or the first four bytes and the last two of an ether address.
 pub enum Shape {
-    Segments,
-    Range,
-    Mac,
-}
-
-// Its numbers: the segments and the prefix; low and high; the first four bytes and the last two.
-pub struct Wanted {
-    pub segments: [u16; 8],
-    pub low: u32,
-    pub high: u32,
+    Range(u32, u32),
+    Mac(u32, u32),
 }
 
 pub enum Version {
@@ -276,82 +270,75 @@ pub fn check_addr4(
 
 // ---- several loads, by direction
 
-const POWERS: [u32; 17] = [
-    1,
-    2,
-    4,
-    8,
-    16,
-    32,
-    64,
-    128,
-    256,
-    512,
-    1024,
-    2048,
-    4096,
-    8192,
-    16384,
-    32768,
-    65536,
-];
-
-// The mask of a segment's first p bits.
-fn mask16(p: u32) -> u32
-    requires { ⌜ p < 16 ⌝ }
-    ensures { λ r. ⌜ (r ≡ E.mask16 p) × (r < 65536) ⌝ }
-{
-    let i = (16 - p) as usize;
-    65536 - POWERS[i]
-}
-
-// A segment of which the first p bits count.
-fn check_part(
+// A segment under a mask that is not full, the last one tested.
+fn check_last(
     insns: &mut [u64],
     failure: &mut [u16],
     p: Patches,
-    bits: u32,
+    mask: u32,
     off: u32,
-    segment: u16,
+    expected: u32,
 ) -> Patches
-    requires { ⌜ Space 3 (now insns) (now failure) p (p .failure) × (bits < 16) ⌝ }
-    ensures { λ r. ⌜ PutFailure (op (ldAbs half off) ∷ op (andK (E.mask16 bits)) ∷ E.need (bitAnd segment (E.mask16 bits)) ∷ []) (now (insns .entry)) (now (failure .entry)) p (now (insns .exit)) (now (failure .exit)) r ⌝ }
+    requires { ⌜ Space 3 (now insns) (now failure) p (p .failure) ⌝ }
+    ensures { λ r. ⌜ PutFailure (N.lastTest mask expected off) (now (insns .entry)) (now (failure .entry)) p (now (insns .exit)) (now (failure .exit)) r ⌝ }
 {
-    let mask = mask16(bits);
+    if mask == 0 {
+        return p;
+    }
     let q = push(insns, p, 0x28, off);
     let t = push(insns, q, 0x54, mask);
-    need(insns, failure, t, (segment as u32) & mask)
+    need(insns, failure, t, expected)
 }
 
-// `check_net6`: the segments of an address as far as the prefix reaches. All of them from 128 on: `check_ip6_addr`.
-fn check_net6(
-    insns: &mut [u64],
-    failure: &mut [u16],
-    p: Patches,
-    prefix: u32,
-    off: u32,
-    segments: [u16; 8],
-) -> Patches
+// `check_net6`: the segments of an address as far as the masks reach. All of them where each is full: `check_ip6_addr`.
+fn check_net6(insns: &mut [u64], failure: &mut [u16], p: Patches, net: Net6, off: u32) -> Patches
     requires { ⌜ Space 17 (now insns) (now failure) p (p .failure) × (off < 65536) ⌝ }
-    ensures { λ r. ⌜ PutFailure (E.checkNet6 prefix off segments) (now (insns .entry)) (now (failure .entry)) p (now (insns .exit)) (now (failure .exit)) r ⌝ }
+    ensures { λ r. ⌜ PutFailure (N.tests (net .masks) (net .expected) off) (now (insns .entry)) (now (failure .entry)) p (now (insns .exit)) (now (failure .exit)) r ⌝ }
 {
     let mut t = p;
     let mut i: usize = 0;
-    let mut left = prefix;
     let mut at = off;
     while i < 8 {
-        if left == 0 {
-            return t;
+        let mask = net.masks[i];
+        if mask != 0xffff {
+            return check_last(insns, failure, t, mask as u32, at, net.expected[i] as u32);
         }
-        if left < 16 {
-            return check_part(insns, failure, t, left, at, segments[i]);
-        }
-        t = check_halfword(insns, failure, t, at, segments[i] as u32);
+        t = check_halfword(insns, failure, t, at, net.expected[i] as u32);
         at += 2;
-        left -= 16;
         i += 1;
     }
     t
+}
+
+// The tests of a net by direction. With either, the destination is tried where the source fails.
+fn check_net6_sides(
+    insns: &mut [u64],
+    success: &mut [u16],
+    failure: &mut [u16],
+    p: Patches,
+    dir: Dir,
+    net: Net6,
+    src: u32,
+    dst: u32,
+) -> Patches
+    requires { ⌜ Room 35 (now insns) (now success) (now failure) p × (src < 65536) × (dst < 65536) ⌝ }
+    ensures { λ r. ⌜ Grew (E.checkBlocks dir (N.tests (net .masks) (net .expected) src) (N.tests (net .masks) (net .expected) dst)) (now (insns .entry)) (now (success .entry)) (now (failure .entry)) p (now (insns .exit)) (now (success .exit)) (now (failure .exit)) r ⌝ }
+{
+    match dir {
+        Dir::Src => check_net6(insns, failure, p, net, src),
+        Dir::Dst => check_net6(insns, failure, p, net, dst),
+        Dir::SrcAndDst => {
+            let q = check_net6(insns, failure, p, net, src);
+            check_net6(insns, failure, q, net, dst)
+        }
+        Dir::SrcOrDst => {
+            let mark = p.failure;
+            let q = check_net6(insns, failure, p, net, src);
+            let settled = otherwise(insns, success, failure, q, mark);
+            let t = settled.patches;
+            check_net6(insns, failure, t, net, dst)
+        }
+    }
 }
 
 // Low ≤ A ≤ high.
@@ -392,44 +379,18 @@ fn check_wanted(
     failure: &mut [u16],
     p: Patches,
     shape: Shape,
-    wanted: Wanted,
     off: u32,
 ) -> Patches
     requires { ⌜ Space (L.most shape) (now insns) (now failure) p (p .failure) × (off < 65536) ⌝ }
-    ensures { λ r. ⌜ PutFailure (L.wanted shape wanted off) (now (insns .entry)) (now (failure .entry)) p (now (insns .exit)) (now (failure .exit)) r ⌝ }
+    ensures { λ r. ⌜ PutFailure (L.wanted shape off) (now (insns .entry)) (now (failure .entry)) p (now (insns .exit)) (now (failure .exit)) r ⌝ }
 {
     match shape {
-        Shape::Segments => {
-            let segments = wanted.segments;
-            check_net6(insns, failure, p, wanted.low, off, segments)
-        }
-        Shape::Range => check_range(insns, failure, p, wanted.low, wanted.high, off),
-        Shape::Mac => check_mac(insns, failure, p, wanted.low, wanted.high, off),
+        Shape::Range(low, high) => check_range(insns, failure, p, low, high, off),
+        Shape::Mac(four, two) => check_mac(insns, failure, p, four, two, off),
     }
 }
 
-// Where the first address or port differs the second is tried.
-fn check_either(
-    insns: &mut [u64],
-    success: &mut [u16],
-    failure: &mut [u16],
-    p: Patches,
-    shape: Shape,
-    wanted: Wanted,
-    src: u32,
-    dst: u32,
-) -> Patches
-    requires { ⌜ Room (L.most shape + 1 + L.most shape) (now insns) (now success) (now failure) p × (src < 65536) × (dst < 65536) ⌝ }
-    ensures { λ r. ⌜ Grew (B.otherwise (L.wanted shape wanted src) ++ L.wanted shape wanted dst) (now (insns .entry)) (now (success .entry)) (now (failure .entry)) p (now (insns .exit)) (now (success .exit)) (now (failure .exit)) r ⌝ }
-{
-    let mark = p.failure;
-    let q = check_wanted(insns, failure, p, shape, wanted, src);
-    let settled = otherwise(insns, success, failure, q, mark);
-    let t = settled.patches;
-    check_wanted(insns, failure, t, shape, wanted, dst)
-}
-
-// Two tests by direction.
+// Two tests by direction. With either, the second is tried where the first fails.
 pub fn check_sides(
     insns: &mut [u64],
     success: &mut [u16],
@@ -437,21 +398,26 @@ pub fn check_sides(
     p: Patches,
     dir: Dir,
     shape: Shape,
-    wanted: Wanted,
     src: u32,
     dst: u32,
 ) -> Patches
     requires { ⌜ Room (L.most shape + 1 + L.most shape) (now insns) (now success) (now failure) p × (src < 65536) × (dst < 65536) ⌝ }
-    ensures { λ r. ⌜ Grew (E.checkBlocks dir (L.wanted shape wanted src) (L.wanted shape wanted dst)) (now (insns .entry)) (now (success .entry)) (now (failure .entry)) p (now (insns .exit)) (now (success .exit)) (now (failure .exit)) r ⌝ }
+    ensures { λ r. ⌜ Grew (E.checkBlocks dir (L.wanted shape src) (L.wanted shape dst)) (now (insns .entry)) (now (success .entry)) (now (failure .entry)) p (now (insns .exit)) (now (success .exit)) (now (failure .exit)) r ⌝ }
 {
     match dir {
-        Dir::Src => check_wanted(insns, failure, p, shape, wanted, src),
-        Dir::Dst => check_wanted(insns, failure, p, shape, wanted, dst),
+        Dir::Src => check_wanted(insns, failure, p, shape, src),
+        Dir::Dst => check_wanted(insns, failure, p, shape, dst),
         Dir::SrcAndDst => {
-            let q = check_wanted(insns, failure, p, shape, wanted, src);
-            check_wanted(insns, failure, q, shape, wanted, dst)
+            let q = check_wanted(insns, failure, p, shape, src);
+            check_wanted(insns, failure, q, shape, dst)
         }
-        Dir::SrcOrDst => check_either(insns, success, failure, p, shape, wanted, src, dst),
+        Dir::SrcOrDst => {
+            let mark = p.failure;
+            let q = check_wanted(insns, failure, p, shape, src);
+            let settled = otherwise(insns, success, failure, q, mark);
+            let t = settled.patches;
+            check_wanted(insns, failure, t, shape, dst)
+        }
     }
 }
 
@@ -507,7 +473,7 @@ pub fn emit_net6(
     p: Patches,
     facts: Facts,
     dir: Dir,
-    prefix: u32,
+    prefix: u8,
     segments: [u16; 8],
 ) -> Emission
     requires { ⌜ Room 37 (now insns) (now success) (now failure) p ⌝ }
@@ -519,22 +485,8 @@ pub fn emit_net6(
             let q = e.patches;
             let g = e.facts;
             let n = net_offset(link);
-            let wanted = Wanted {
-                segments: segments,
-                low: prefix,
-                high: 0,
-            };
-            let t = check_sides(
-                insns,
-                success,
-                failure,
-                q,
-                dir,
-                Shape::Segments,
-                wanted,
-                n + 8,
-                n + 24,
-            );
+            let net = net6_of(prefix, segments);
+            let t = check_net6_sides(insns, success, failure, q, dir, net, n + 8, n + 24);
             Emission::Done(Emitted {
                 patches: t,
                 facts: g,
@@ -561,13 +513,9 @@ pub fn emit_ether_host(
     if is_raw(link) {
         return Emission::Refused(Refusal::EtherOnRaw);
     }
-    let wanted = Wanted {
-        segments: [0; 8],
-        low: four,
-        high: two,
-    };
+    let shape = Shape::Mac(four, two);
     let turned = turned(dir);
-    let t = check_sides(insns, success, failure, p, turned, Shape::Mac, wanted, 0, 6);
+    let t = check_sides(insns, success, failure, p, turned, shape, 0, 6);
     Emission::Done(Emitted {
         patches: t,
         facts: facts,

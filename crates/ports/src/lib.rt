@@ -11,7 +11,6 @@ use conditions::Mask;
 use conditions::Offset;
 use conditions::Shape;
 use conditions::Version;
-use conditions::Wanted;
 use conditions::check_addr4;
 use conditions::check_sides;
 use conditions::emit_ethertype;
@@ -382,22 +381,8 @@ pub fn emit_portrange(
     let q = e.patches;
     let g = e.facts;
     let n = net_offset(link);
-    let wanted = Wanted {
-        segments: [0; 8],
-        low: lo,
-        high: hi,
-    };
-    let t = check_sides(
-        insns,
-        success,
-        failure,
-        q,
-        dir,
-        Shape::Range,
-        wanted,
-        n,
-        n + 2,
-    );
+    let shape = Shape::Range(lo, hi);
+    let t = check_sides(insns, success, failure, q, dir, shape, n, n + 2);
     Emitted {
         patches: t,
         facts: g,
@@ -506,7 +491,13 @@ fn hoist_ip6(
             let q = e.patches;
             let g = e.facts;
             let ports = guards.port_prereqs;
-            hoist_ports(link, insns, failure, q, g, ports)
+            match ports {
+                Ports::NotReady => Emission::Done(Emitted {
+                    patches: q,
+                    facts: g,
+                }),
+                _ => hoist_ports(link, insns, failure, q, g, ports),
+            }
         }
     }
 }

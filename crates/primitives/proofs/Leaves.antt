@@ -1,13 +1,12 @@
 -- `emitPrimitive` of a record's condition by its kind, as the code has it.
-use Prim.Native.Nat.{ℕ, _+_, _-_, _*_, _≤_}
+use Prim.Native.Nat.{ℕ, _+_, _≤_}
 use mathlib.Core.Path.{_≡_, refl, sym, ap, ap₂, _∙_}
-use mathlib.Core.List.{List, [], _∷_}
+use mathlib.Core.List.{List}
 use mathlib.Core.Bool.{Bool, true, false}
 use native.Mathlib.Omega.{arith}
 use lib.Bits.{bitAnd}
 use lib.Dec.{eqb}
-use lib.ListN.{length}
-use borrow.Author.Tests.{ne-eqb, le-leb, eqb-true, eqb-false}
+use borrow.Author.Tests.{eqb-true, eqb-false}
 use Rattle.error.specs.declared.Refusal.{Refusal}
 use Rattle.error.specs.Answer.{Out, refused, done}
 use Rattle.bpf.specs.Bytes.{be, bytesAt, segmentsAt}
@@ -24,6 +23,7 @@ use Rattle.codegen.specs.declared.Facts.{Facts}
 use Rattle.codegen.specs.Protocols.{rowOf, smallOf, known, l4setFor}
 use Rattle.codegen.specs.Guards.{primitiveGuards}
 use Rattle.codegen.specs.Emit.{netOffset, checkLoads, checkBlocks, checkIp6Addr, checkNet6, checkRange, checkMac, guarded, emitRow, ported, ether, emitPrimitive}
+use Rattle.codegen.proofs.Nets6.{whole-prefix}
 use Rattle.facts.specs.declared.SetResult.{SetResult}
 use Rattle.facts.specs.declared.SetResult.the-variants as Set
 use Rattle.facts.specs.Sets.{setResult}
@@ -34,16 +34,11 @@ use Rattle.emit.specs.Lines.{opOf}
 use Rattle.conditions.specs.declared.Mask.the-variants.{Whole, Under}
 use Rattle.conditions.specs.Loads.{load, turned, macBlock}
 use Rattle.ports.specs.Hoist.{portedBy}
-use Rattle.primitives.specs.Kinds.{PortKind, Simple, rowEmit, guardsEmit}
+use Rattle.primitives.specs.Kinds.{PortKind, Simple, prefixOf, rowEmit, guardsEmit}
 
 -- ---- parts
 
--- a prefix that reaches over all segments
-whole-prefix : (p at : ℕ) (ss : List ℕ) → 16 * length ss ≤ p → checkNet6 p at ss ≡ checkIp6Addr at ss
-unfolding checkNet6 checkIp6Addr
-whole-prefix p at [] h = refl
-whole-prefix p at (s ∷ ss) h = rw (ne-eqb p 0 (λ e. omega arith), le-leb 16 p (omega arith), whole-prefix (p - 16) (at + 2) ss (omega arith))
-
+-- a host is a net whose prefix reaches over all segments
 whole-address : (at o : ℕ) (s : List ℕ) → checkNet6 128 at (segmentsAt 8 o s) ≡ checkIp6Addr at (segmentsAt 8 o s)
 whole-address at o s = whole-prefix 128 at (segmentsAt 8 o s) (omega (arith, length-segments 8 o s))
 
@@ -94,7 +89,7 @@ module _ {s : List ℕ} {i : ℕ} (h : LeafHere s i) (L : LinkType) (g : Facts) 
   unfolding emitPrimitive opOf
   host4 k d₀ a₀ = rw (kind11 h k, d₀, a₀)
 
-  pub host6 : {d : Dir} {a : List ℕ} → be 1 (place i) s ≡ 12 → d ≡ dirOf (be 1 (place i + 1) s) → a ≡ segmentsAt 8 (place i + 8) s
+  host6 : {d : Dir} {a : List ℕ} → be 1 (place i) s ≡ 12 → d ≡ dirOf (be 1 (place i + 1) s) → a ≡ segmentsAt 8 (place i + 8) s
       → emitPrimitive L (leafAt s i) g ≡ guarded L 0x86dd (checkBlocks d (checkNet6 128 (netOffset L + 8) a) (checkNet6 128 (netOffset L + 24) a)) g
   unfolding emitPrimitive
   host6 k d₀ a₀ = rw (kind12 h k, d₀, a₀, whole-address (netOffset L + 8) (place i + 8) s, whole-address (netOffset L + 24) (place i + 8) s)
@@ -104,10 +99,19 @@ module _ {s : List ℕ} {i : ℕ} (h : LeafHere s i) (L : LinkType) (g : Facts) 
   unfolding emitPrimitive opOf
   net k d₀ a₀ m₀ = rw (kind13 h k, d₀, a₀, m₀)
 
-  pub net6 : {d : Dir} {p : ℕ} {a : List ℕ} → be 1 (place i) s ≡ 14 → d ≡ dirOf (be 1 (place i + 1) s) → p ≡ be 1 (place i + 3) s → a ≡ segmentsAt 8 (place i + 8) s
+  net6 : {d : Dir} {p : ℕ} {a : List ℕ} → be 1 (place i) s ≡ 14 → d ≡ dirOf (be 1 (place i + 1) s) → p ≡ be 1 (place i + 3) s → a ≡ segmentsAt 8 (place i + 8) s
       → emitPrimitive L (leafAt s i) g ≡ guarded L 0x86dd (checkBlocks d (checkNet6 p (netOffset L + 8) a) (checkNet6 p (netOffset L + 24) a)) g
   unfolding emitPrimitive
   net6 k d₀ p₀ a₀ = rw (kind14 h k, d₀, p₀, a₀)
+
+  -- both by the prefix of the kind
+  pub address6 : {d : Dir} {p k : ℕ} {a : List ℕ} → k ≡ be 1 (place i) s → ((k ≡ 12 → ⊥) → k ≡ 14) → d ≡ dirOf (be 1 (place i + 1) s) → p ≡ prefixOf s i k → a ≡ segmentsAt 8 (place i + 8) s
+      → emitPrimitive L (leafAt s i) g ≡ guarded L 0x86dd (checkBlocks d (checkNet6 p (netOffset L + 8) a) (checkNet6 p (netOffset L + 24) a)) g
+  address6 {d} {p} {k} {a} e other d₀ p₀ a₀ = go (eqb k 12) refl
+    where
+      go : (t : Bool) → eqb k 12 ≡ t → emitPrimitive L (leafAt s i) g ≡ guarded L 0x86dd (checkBlocks d (checkNet6 p (netOffset L + 8) a) (checkNet6 p (netOffset L + 24) a)) g
+      go true t = let q : p ≡ 128 = p₀ ∙ rw t in rw q (host6 (sym e ∙ eqb-true k 12 t) d₀ a₀)
+      go false t = net6 (sym e ∙ other (eqb-false k 12 t)) d₀ (p₀ ∙ rw t) a₀
 
   pub ether-host : {d : Dir} {four two : ℕ} → be 1 (place i) s ≡ 17 → d ≡ dirOf (be 1 (place i + 1) s) → four ≡ be 4 (place i + 8) s → two ≡ be 2 (place i + 12) s
       → emitPrimitive L (leafAt s i) g ≡ ether L (checkBlocks (turned d) (macBlock four two 0) (macBlock four two 6)) g

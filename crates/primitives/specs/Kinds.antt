@@ -1,7 +1,9 @@
 -- The conditions by groups of kinds, as the code takes them.
-use Prim.Native.Nat.{ℕ, _≤_}
+use Prim.Native.Nat.{ℕ, _+_, _≤_}
 use mathlib.Core.Path.{_≡_}
 use mathlib.Core.List.{List, []}
+use mathlib.Core.Bool.{cond}
+use lib.Dec.{eqb}
 use Rattle.error.specs.Answer.{Out, done}
 use Rattle.bpf.specs.Bytes.{be}
 use Rattle.ast.specs.declared.LinkType.{LinkType}
@@ -26,6 +28,10 @@ pub record PortKind (s : List ℕ) (i kind : ℕ) : Type 0 where
 pub record Simple (s : List ℕ) (i kind : ℕ) : Type 0 where
   pub is : kind ≡ be 1 (place i) s
   pub other : 11 ≤ kind → 18 ≤ kind
+
+-- the prefix of an IPv6 address by its kind: 128 for a host
+abbrev pub prefixOf : List ℕ → ℕ → ℕ → ℕ
+prefixOf s i kind = cond (eqb kind 12) 128 (be 1 (place i + 3) s)
 
 -- `emitRow` of a protocol's guards
 abbrev pub rowEmit : LinkType → Known → Known → Known → Facts → Out Code

@@ -13,6 +13,7 @@ use emit::Patches;
 use facts::SetResult;
 use ports::emit_port;
 use ports::emit_portrange;
+ghost use mathlib.Core.Path.{_≡_};
 ghost use Rattle.codegen.specs.Emit as E;
 ghost use Rattle.emit.specs.Grown.{Room, Space, Reply, ReplyFailure};
 ghost use Rattle.reader.specs.Reader.{leafAt, LeafHere};
@@ -59,6 +60,17 @@ fn emit_proto(
     }
 }
 
+// The prefix of an IPv6 address, 128 for a host.
+fn prefix_of(tree: &[u8], i: usize, kind: u8) -> u8
+    requires { ⌜ LeafHere (now tree) i ⌝ }
+    ensures { λ r. ⌜ r ≡ K.prefixOf (now (tree .entry)) i kind ⌝ }
+{
+    if kind == 12 {
+        return 128;
+    }
+    reader::byte_at(tree, i, 3)
+}
+
 // Kinds 11 to 14.
 fn emit_address(
     tree: &[u8],
@@ -86,13 +98,9 @@ fn emit_address(
             let mask = Mask::Under(m);
             emit_net(link, insns, success, failure, p, facts, dir, mask, k)
         }
-        12 => {
-            let segments = reader::segments_at(tree, i);
-            emit_net6(link, insns, success, failure, p, facts, dir, 128, segments)
-        }
         _ => {
             let segments = reader::segments_at(tree, i);
-            let bits = reader::byte_at(tree, i, 3) as u32;
+            let bits = prefix_of(tree, i, kind);
             emit_net6(link, insns, success, failure, p, facts, dir, bits, segments)
         }
     }

@@ -2,30 +2,22 @@ use borrow.Author.Needs.{needs}
 use Rattle.conditions.proofs.check_wanted.Statement.{statement}
 use Rattle.conditions.proofs.check_wanted.Tie as tie
 
-check-net6-requires : tie.Need-check-net6-requires
-check-net6-requires c κs = let p = c .before .before .before .before .before .before .before .pre in rw (c .before .before .before .enum-told .given .1) at p
-
 check-range-requires : tie.Need-check-range-requires
-check-range-requires c κs = let p = c .before .before .before .before .before .before .pre in (rw (c .before .before .enum-told2 .given .1) at p) .0
+check-range-requires c κs = let p = c .before .before .before .before .before .before .before .pre in (rw (c .before .before .before .shape .given .1) at p) .0
 
 check-mac-requires : tie.Need-check-mac-requires
-check-mac-requires c κs = let p = c .before .before .before .before .before .before .pre in rw (c .before .before .enum-told3 .given .1) at p
+check-mac-requires c κs = let p = c .before .before .before .before .before .before .before .pre in rw (c .before .before .before .shape2 .given .1) at p
 
 returns : tie.Need-returns
-returns c = rw (c .before .before .before .before .before .before .before .before .enum-told .given .1) (c .before .before .before .before .check-net6 .ensures)
+returns c = rw (c .before .before .before .before .before .before .before .before .shape .given .1) (c .before .before .before .before .check-range .ensures)
 
 returns-2 : tie.Need-returns-2
-returns-2 c = rw (c .before .before .before .before .before .before .before .enum-told2 .given .1) (c .before .before .before .before .check-range .ensures)
-
-returns-3 : tie.Need-returns-3
-returns-3 c = rw (c .before .before .before .before .before .before .before .enum-told3 .given .1) (c .before .before .before .before .check-mac .ensures)
+returns-2 c = rw (c .before .before .before .before .before .before .before .before .shape2 .given .1) (c .before .before .before .before .check-mac .ensures)
 
 pub check-wanted-spec : {M : Type 1} → statement M
 check-wanted-spec =
     tie.close
     (tie.spec
-    (λ c. search needs)
-    check-net6-requires
     (λ c. search needs)
     check-range-requires
     (λ c. search needs)
@@ -35,7 +27,4 @@ check-wanted-spec =
     returns
     (λ c. search needs)
     (λ c. search needs)
-    returns-2
-    (λ c. search needs)
-    (λ c. search needs)
-    returns-3)
+    returns-2)
