@@ -1,15 +1,15 @@
 -- A row of instructions, and what the pending jumps of its lines do to it.
-use Prim.Native.Nat.{ℕ, zero, suc, _-_, _<_}
-use mathlib.Core.List.{List, [], _∷_, _++_, map}
+use Prim.Native.Nat.{ℕ, _<_}
+use mathlib.Core.List.{List}
 use mathlib.Core.Bool.{cond}
-use lib.ListN.{length, getD, set, replicate}
+use lib.ListN.{getD, set}
 use lib.Dec.{eqb}
 use Rattle.bpf.specs.declared.Insn.{Insn}
 use Rattle.bpf.specs.Program.{insn}
 use Rattle.output.specs.declared.Patch.{Patch}
 use Rattle.output.specs.declared.Patch.the-variants.{Jt, Jf, Ja, Nothing}
 use Rattle.output.specs.declared.Pending.{Pending}
-use Rattle.output.specs.Words.{codePart, distancePart, fieldPart, kPart, insnOf}
+use Rattle.output.specs.Words.{codePart, distancePart, fieldPart, kPart}
 
 abbrev pub noInsn : Insn
 noInsn = insn 0 0 0 0
@@ -35,24 +35,6 @@ patchOf field i = cond (eqb field 1) (Jt i) (cond (eqb field 2) (Jf i) (cond (eq
 unfoldable pub pendingOf : ℕ → ℕ → Pending
 pendingOf w i = record { patch = patchOf (fieldPart w) i; distance = distancePart w }
 
-abbrev pub resolvedBy : Pending → List Insn → List Insn
-resolvedBy p xs = resolved (p .patch) (p .distance) xs
-
--- the row after the pending jumps of the first n lines
-unfoldable pub linkedTo : ℕ → List ℕ → List Insn → List Insn
-linkedTo zero ws xs = xs
-linkedTo (suc n) ws xs = resolvedBy (pendingOf (getD ws n 0) n) (linkedTo n ws xs)
-
 -- the instruction of a line without its jump
 unfoldable pub bare : ℕ → Insn
 bare w = insn (codePart w) 0 0 (kPart w)
-
--- a row of 64 that starts with these instructions
-abbrev pub filled : List Insn → List Insn
-filled xs = xs ++ replicate (64 - length xs) noInsn
-
-unfoldable pub bareRow : List ℕ → List Insn
-bareRow ws = filled (map bare ws)
-
-unfoldable pub row : List ℕ → List Insn
-row ws = filled (map insnOf ws)

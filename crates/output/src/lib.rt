@@ -1,12 +1,12 @@
 // A program's lines as a row of instructions, and the row as bytes in a lent buffer.
 use bpf::Insn;
 ghost use mathlib.Core.Path.{_≡_};
-ghost use mathlib.Core.List.{_++_};
+ghost use mathlib.Core.List.{_++_, map};
 ghost use Prim.Native.Nat.{_+_, _*_, _≤_, _<_};
 ghost use lib.ListN.{length, take, drop, getD, replicate};
-ghost use Rattle.bpf.specs.Program.{insn, insnBytes, programBytes};
+ghost use Rattle.bpf.specs.Program.{insn, insnBytes};
 ghost use Rattle.output.specs.Words as W;
-ghost use Rattle.output.specs.Rows.{Lands, resolved, pendingOf, linkedTo, bare, bareRow, row};
+ghost use Rattle.output.specs.Rows.{Lands, resolved, pendingOf, bare};
 
 // The field of an instruction that waits for a distance, by the instruction's place in a row: codegen.rs `Patch`. A line that does not
 // jump has nothing to wait for.
@@ -75,19 +75,6 @@ fn pending_at(lines: &[u64], i: usize) -> Pending
     }
 }
 
-// Resolves the jump of each line.
-fn link(insns: &mut [Insn], lines: &[u64])
-    requires { ⌜ length (now lines) ≤ length (now insns) ⌝ }
-    ensures { λ _. ⌜ now (insns .exit) ≡ linkedTo (length (now (lines .entry))) (now (lines .entry)) (now (insns .entry)) ⌝ }
-{
-    let mut i: usize = 0;
-    while i < lines.len() {
-        let p = pending_at(lines, i);
-        resolve(insns, p.patch, p.distance);
-        i += 1;
-    }
-}
-
 // The instruction of a line, its jump not yet resolved.
 fn bare_insn(w: u64) -> Insn
     ensures { λ r. ⌜ r ≡ bare w ⌝ }
@@ -100,33 +87,18 @@ fn bare_insn(w: u64) -> Insn
     }
 }
 
-fn bare_row(lines: &[u64]) -> [Insn; 64]
-    requires { ⌜ length (now lines) ≤ 64 ⌝ }
-    ensures { λ r. ⌜ r ≡ bareRow (now (lines .entry)) ⌝ }
+// Puts the instruction of each line into a lent row and resolves its jump.
+fn link(insns: &mut [Insn], lines: &[u64])
+    requires { ⌜ length (now lines) ≤ length (now insns) ⌝ }
+    ensures { λ _. ⌜ now (insns .exit) ≡ map W.insnOf (now (lines .entry)) ++ drop (length (now (lines .entry))) (now (insns .entry)) ⌝ }
 {
-    let zero = Insn {
-        code: 0,
-        jt: 0,
-        jf: 0,
-        k: 0,
-    };
-    let mut insns = [zero; 64];
     let mut i: usize = 0;
     while i < lines.len() {
         insns[i] = bare_insn(lines[i]);
+        let p = pending_at(lines, i);
+        resolve(insns, p.patch, p.distance);
         i += 1;
     }
-    insns
-}
-
-// The instructions of up to 64 lines.
-fn linked(lines: &[u64]) -> [Insn; 64]
-    requires { ⌜ length (now lines) ≤ 64 ⌝ }
-    ensures { λ r. ⌜ r ≡ row (now (lines .entry)) ⌝ }
-{
-    let mut insns = bare_row(lines);
-    link(&mut insns, lines);
-    insns
 }
 
 // ---- the bytes
@@ -146,13 +118,21 @@ fn store(program: &mut [u8], at: usize, code: u16, jt: u8, jf: u8, k: u32)
     program[at + 7] = (k / 256 / 256 / 256 % 256) as u8;
 }
 
-// The first n instructions of a row, from a place on.
-fn write_row(program: &mut [u8], at: usize, insns: [Insn; 64], n: usize)
-    requires { ⌜ (n ≤ 64) × (at + 8 * n ≤ length (now program)) ⌝ }
-    ensures { λ _. ⌜ now (program .exit) ≡ take at (now (program .entry)) ++ programBytes (take n insns) ++ drop (at + 8 * n) (now (program .entry)) ⌝ }
+// The instructions of up to 64 lines, from a place on.
+fn write_row(program: &mut [u8], at: usize, lines: &[u64])
+    requires { ⌜ (length (now lines) ≤ 64) × (at + 8 * length (now lines) ≤ length (now program)) ⌝ }
+    ensures { λ _. ⌜ now (program .exit) ≡ take at (now (program .entry)) ++ W.bytesOf (now (lines .entry)) ++ drop (at + 8 * length (now (lines .entry))) (now (program .entry)) ⌝ }
 {
+    let zero = Insn {
+        code: 0,
+        jt: 0,
+        jf: 0,
+        k: 0,
+    };
+    let mut insns = [zero; 64];
+    link(&mut insns, lines);
     let mut i: usize = 0;
-    while i < n {
+    while i < lines.len() {
         let x = insns[i];
         store(program, at + 8 * i, x.code, x.jt, x.jf, x.k);
         i += 1;
@@ -176,8 +156,7 @@ pub fn write_program(program: &mut [u8], lines: &[u64], n: usize)
     while i < n {
         let m = next(n - i);
         let to = i + m;
-        let insns = linked(&lines[i..to]);
-        write_row(program, 8 * i, insns, m);
+        write_row(program, 8 * i, &lines[i..to]);
         i = to;
     }
 }

@@ -3,19 +3,15 @@ use Rattle.output.proofs.write_program.Statement.{statement}
 use Rattle.output.proofs.write_program.Tie as tie
 use Rattle.output.proofs.write_program.Reads as reads
 use Rattle.output.proofs.write_program.Lts as lts
-use Rattle.output.proofs.linked.Reads as linked-reads
 use Rattle.output.proofs.next.Reads as next-reads
 use Rattle.output.proofs.write_row.Reads as write-row-reads
-use mathlib.Core.Path.{_≡_, refl, ap, _∙_}
-use mathlib.Core.List.{List, _++_}
+use mathlib.Core.Path.{_≡_, refl, _∙_}
+use mathlib.Core.List.{_++_}
 use Prim.Native.Nat.{ℕ, _≤_, _-_, _+_, _*_}
 use native.Mathlib.Omega.{arith}
-use lib.ListN.{length, take, drop, length-drop}
-use lib.Seq.{length-take-le}
-use Rattle.bpf.specs.declared.Insn.{Insn}
-use Rattle.bpf.specs.Program.{programBytes}
+use lib.ListN.{length, take, drop}
 use Rattle.output.specs.Words.{bytesOf}
-use Rattle.output.proofs.Parts.{program-next}
+use Rattle.output.proofs.Parts.{part-length, program-next}
 
 abbrev Inv-loop : tie.InvT-loop
 Inv-loop program₀ lines n i₀ program i = (i ≤ n) × (length program ≡ length program₀) × (program ≡ bytesOf (take i lines) ++ drop (8 * i) program₀)
@@ -36,38 +32,34 @@ next-requires c κs = search needs
 add-to : tie.Need-add-to Inv-loop μ-loop
 add-to c = omega (arith, c .next .ensures)
 
-mul-linked : tie.Need-mul-linked Inv-loop μ-loop
-mul-linked c = omega arith
-
-sub-linked : tie.Need-sub-linked Inv-loop μ-loop
-sub-linked c = omega arith
-
-part-linked-start : tie.Need-part-linked-start Inv-loop μ-loop
-part-linked-start c = omega arith
-
-part-linked-end : tie.Need-part-linked-end Inv-loop μ-loop
-part-linked-end c = omega (arith, c .next .ensures)
-
-linked-requires : tie.Need-linked-requires Inv-loop μ-loop
-linked-requires c κs = omega (arith, c .before .next .ensures, length-take-le (c .before .before .before .loop .i + c .before .next .result - c .before .before .before .loop .i) (drop (c .before .before .before .loop .i) (c .before .before .before .before .before .before .args .lines .now)) (omega (arith, c .before .next .ensures, length-drop (c .before .before .before .loop .i) (c .before .before .before .before .before .before .args .lines .now))))
-
 mul-write-row : tie.Need-mul-write-row Inv-loop μ-loop
 mul-write-row c = omega arith
 
+mul-write-row-2 : tie.Need-mul-write-row-2 Inv-loop μ-loop
+mul-write-row-2 c = omega arith
+
+sub-write-row : tie.Need-sub-write-row Inv-loop μ-loop
+sub-write-row c = omega arith
+
+part-write-row-start : tie.Need-part-write-row-start Inv-loop μ-loop
+part-write-row-start c = omega arith
+
+part-write-row-end : tie.Need-part-write-row-end Inv-loop μ-loop
+part-write-row-end c = omega (arith, c .before .next .ensures)
+
 write-row-requires : tie.Need-write-row-requires Inv-loop μ-loop
-write-row-requires c κs = omega (arith, c .before .before .before .next .ensures)
+write-row-requires c κs = omega (arith, c .before .before .next .ensures, part-length (c .before .before .before .before .before .before .before .args .lines .now) (c .before .before .before .before .loop .i) (c .before .before .next .result) (omega (arith, c .before .before .next .ensures)))
 
 loop-less : tie.Need-loop-less Inv-loop μ-loop
-loop-less c = omega (arith, c .before .before .before .before .before .before .next .ensures)
+loop-less c = omega (arith, c .before .before .before .before .before .next .ensures)
 
 loop-again : tie.Need-loop-again Inv-loop μ-loop
 loop-again c =
-    let l = c .before .before .before .before .before .before .before .before .loop in
-    let a = c .before .before .before .before .before .before .before .before .before .before .before .args in
-    let m : ℕ = c .before .before .before .before .before .before .next .result in
-    let within : l .i + m ≤ a .n = omega (arith, c .before .before .before .before .before .before .next .ensures) in
-    let written = c .before .before .write-row .ensures ∙ ap (λ (xs : List Insn). take (8 * l .i) (l .program) ++ programBytes (take m xs) ++ drop (8 * l .i + 8 * m) (l .program)) (c .before .before .before .before .linked .ensures) in
-    (within, omega arith, written ∙ program-next (a .lines .now) (a .program .now) (l .program) (l .i) m (omega (arith, within)) (l .inv .2))
+    let l = c .before .before .before .before .before .before .before .loop in
+    let a = c .before .before .before .before .before .before .before .before .before .before .args in
+    let m : ℕ = c .before .before .before .before .before .next .result in
+    let within : l .i + m ≤ a .n = omega (arith, c .before .before .before .before .before .next .ensures) in
+    (within, omega arith, c .before .before .write-row .ensures ∙ program-next (a .lines .now) (a .program .now) (l .program) (l .i) m (omega (arith, within)) (l .inv .2))
 
 same-length : tie.Need-same-length Inv-loop μ-loop
 same-length c = omega arith
@@ -88,12 +80,11 @@ write-program-spec =
     sub-next
     next-requires
     add-to
-    mul-linked
-    sub-linked
-    part-linked-start
-    part-linked-end
-    linked-requires
     mul-write-row
+    mul-write-row-2
+    sub-write-row
+    part-write-row-start
+    part-write-row-end
     write-row-requires
     loop-less
     loop-again
