@@ -1,48 +1,71 @@
 #!/usr/bin/env python3
-"""The tables of the build's benchmark from what the placements measured.
+"""The tables of the build's benchmark from what its processes measured.
 
-tools/bench/build_table.py FILE...     (one file of the driver's lines for each placement)
+tools/bench/build_table.py FILE...     (one file of the driver's lines for each process)
+
+The last table is printed where the lines hold the times of an older pft_build.
 """
 import sys
 from statistics import median
 
 sys.dont_write_bytecode = True
 from table import mean, placements_of, spread
-from words import run
+from words import run, stop
 
-HEAD = (
-    f"{'row':<10} {'records':>7} {'insns':>5} {'exact':>8} {'32,768':>8} {'compile':>8} {'file':>8}   "
-    f"{'exact/compile':<17} {'exact/file':<17} 32,768/file"
-)
-# Which of the four times is divided by which.
-RATIOS = [(0, 2), (0, 3), (1, 3)]
+# A line's times are the medians of the four builders, or with an older pft_build of the five, then their minima.
+FOUR, FIVE = 2 * 4, 2 * 5
+# The columns of a table: the times by name and place, and the ratios by name and the places of their times.
+TIMES = [("exact", 0), ("32,768", 1), ("compile", 2), ("file", 3)]
+RATIOS = [("exact/compile", 0, 2), ("exact/file", 0, 3), ("32,768/file", 1, 3)]
+# The same of the last table, whose second ratio is that of the minima.
+CHANGES = [("before", 4), ("after", 0)]
+CHANGE_RATIOS = [("after/before", 0, 4), ("of the minima", 5, 9)]
+
+
+def row(line):
+    """Name, records, instructions and the times."""
+    name, records, insns, *times = line.split()
+    if len(times) not in (FOUR, FIVE):
+        raise ValueError(f"{len(times)} times in row {name}")
+    return name, int(records), int(insns), list(map(float, times))
 
 
 def read(path):
-    """Name, records, instructions and the eight times of each row."""
-    rows = [line.split() for line in open(path)]
-    return [(name, int(records), int(insns), list(map(float, times))) for name, records, insns, *times in rows]
+    return [row(line) for line in open(path)]
 
 
-def table(title, placements, at):
-    """Times at `at` and the three after it."""
-    print(title, HEAD, sep="\n")
-    ratios = lambda row: [row[3][at + a] / row[3][at + b] for a, b in RATIOS]
-    for rows in zip(*placements):
+def joined(ratios):
+    return " ".join(f"{ratio:<17}" for ratio in ratios).rstrip()
+
+
+def table(title, processes, at, columns, ratios):
+    """Times and ratios of the places that are counted from `at`."""
+    heads = " ".join(f"{name:>8}" for name, _ in columns)
+    head = f"{'row':<10} {'records':>7} {'insns':>5} {heads}   "
+    print(title, head + joined(name for name, _, _ in ratios), sep="\n")
+    of = lambda row: [row[3][at + a] / row[3][at + b] for _, a, b in ratios]
+    for rows in zip(*processes):
         name, records, insns, _ = rows[0]
-        times = " ".join(f"{median(row[3][i] for row in rows):8.0f}" for i in range(at, at + 4))
-        spreads = " ".join(f"{spread(r):<17}" for r in zip(*map(ratios, rows)))
-        print(f"{name:<10} {records:7} {insns:5} {times}   {spreads}".rstrip())
-    means = [[mean(r) for r in zip(*map(ratios, rows))] for rows in placements]
-    spreads = " ".join(f"{spread(r):<17}" for r in zip(*means))
-    print(f"{'geometric mean':<62} {spreads}".rstrip())
+        times = " ".join(f"{median(row[3][at + i] for row in rows):8.0f}" for _, i in columns)
+        print(f"{name:<10} {records:7} {insns:5} {times}   {joined(map(spread, zip(*map(of, rows))))}")
+    means = [[mean(r) for r in zip(*map(of, rows))] for rows in processes]
+    print("geometric mean".ljust(len(head)) + joined(map(spread, zip(*means))))
 
 
 def main():
-    placements = placements_of(__doc__, read)
-    print(f"ns per build; {len(placements)} placements of the code: their median, and in brackets their range")
-    table("\nmedian of the rounds", placements, 0)
-    table("\nminimum of the rounds", placements, 4)
+    processes = placements_of(__doc__, read)
+    sizes = {len(times) for rows in processes for *_, times in rows}
+    if len(sizes) != 1:
+        stop("not the driver's lines: no rows, or an older pft_build in some of them alone")
+    size = sizes.pop()
+    print(
+        f"ns per build; {len(processes)} processes, the placements of the code in turn: "
+        "their median, and in brackets their range"
+    )
+    table("\nmedian of the rounds", processes, 0, TIMES, RATIOS)
+    table("\nminimum of the rounds", processes, size // 2, TIMES, RATIOS)
+    if size == FIVE:
+        table("\nbefore and after, exact: median of the rounds", processes, 0, CHANGES, CHANGE_RATIOS)
 
 
 if __name__ == "__main__":

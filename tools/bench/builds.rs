@@ -1,10 +1,11 @@
 //! Times `pft_build` and the published `compile` on the same tree files, in one
-//! process and in turns.
+//! process and in turns; with `--cfg before` also the `pft_build` of an older
+//! library, whose names begin with `before_`.
 //!
 //! `answers.rs` and the published modules are put beside this file by
 //! tools/bench/builds. Reads the lines of files.py; for each prints its name,
-//! its records and instructions, then of each of the four the median and the
-//! minimum over the rounds, in ns per build.
+//! its records and instructions, then of each of the builders the median, and of
+//! each the minimum over the rounds, in ns per build.
 
 use std::hint::black_box;
 use std::io;
@@ -14,6 +15,8 @@ include!("answers.rs");
 
 extern "C" {
     fn pft_build(tree: *const u8, size: usize, program: *mut u8, length: usize) -> u32;
+    #[cfg(before)]
+    fn before_pft_build(tree: *const u8, size: usize, program: *mut u8, length: usize) -> u32;
 }
 
 struct Row {
@@ -58,7 +61,7 @@ fn row(line: &str) -> Row {
     }
 }
 
-// ── The four ─────────────────────────────────────────────────────────────────
+// ── The builders ─────────────────────────────────────────────────────────────
 
 /// The count, and but for `from_tree` the program in the buffer.
 type Builder = fn(&Row, &mut [u8]) -> u32;
@@ -66,6 +69,12 @@ type Builder = fn(&Row, &mut [u8]) -> u32;
 fn by_pft(row: &Row, program: &mut [u8]) -> u32 {
     let (tree, size) = (row.file.as_ptr(), row.file.len());
     unsafe { pft_build(tree, size, program.as_mut_ptr(), program.len()) }
+}
+
+#[cfg(before)]
+fn by_before(row: &Row, program: &mut [u8]) -> u32 {
+    let (tree, size) = (row.file.as_ptr(), row.file.len());
+    unsafe { before_pft_build(tree, size, program.as_mut_ptr(), program.len()) }
 }
 
 /// `compile` alone, from a tree in memory to a Vec of instructions.
@@ -88,11 +97,13 @@ fn from_file(row: &Row, program: &mut [u8]) -> u32 {
 }
 
 /// Each with the length of its buffer, 0 for the program's own.
-const BUILDERS: [(Builder, usize); 4] = [
+const BUILDERS: &[(Builder, usize)] = &[
     (by_pft, 0),
     (by_pft, MAX_PROGRAM),
     (from_tree, 0),
     (from_file, 0),
+    #[cfg(before)]
+    (by_before, 0),
 ];
 
 fn buffer(row: &Row, length: usize) -> Vec<u8> {
@@ -116,7 +127,7 @@ fn turn(row: &Row, builder: usize, times: usize) {
 
 /// Stops unless all make the same program; of `from_tree` the count is looked at.
 fn compare(row: &Row) {
-    for (i, (build, length)) in BUILDERS.into_iter().enumerate() {
+    for (i, &(build, length)) in BUILDERS.iter().enumerate() {
         let mut program = buffer(row, length);
         let count = build(row, &mut program) as usize;
         let written = i == 2 || program[..row.program.len()] == row.program;
@@ -131,7 +142,8 @@ fn main() {
     for line in io::stdin().lines() {
         let row = row(&line.expect("text"));
         compare(&row);
-        let times: [[f64; 2]; 4] = timing::timed(1, |builder, times| turn(&row, builder, times));
+        let times: [[f64; 2]; BUILDERS.len()] =
+            timing::timed(1, |builder, times| turn(&row, builder, times));
         let records = (row.file.len() - HEADER) / RECORD;
         print!("{} {records} {}", row.name, row.program.len() / INSN);
         for at in [0, 1] {

@@ -6,7 +6,7 @@ tools/bench/files.py
 import sys
 
 sys.dont_write_bytecode = True
-from programs import MULTICAST, TREES, UDP, WEB, address6, host4, joined, port, protocol
+from programs import MULTICAST, TREES, UDP, WEB, address6, host4, host6, joined, port, protocol
 from trees import AND, EITHER, ETHERNET, NOT, OR, SOURCE, header, record
 from words import Words, run
 
@@ -45,6 +45,9 @@ FILES = {
     "nets6_13": joined(OR, [net6(i) for i in range(7)]),
     "nets6_99": ladder([(net6(i), MULTICAST)[i % 2] for i in range(50)]),
     "nets6_127": ladder([(net6(i), MULTICAST)[i % 2] for i in range(64)]),
+    "hosts6_7": joined(OR, [host6(EITHER, i) for i in range(4)]),
+    "hosts6_13": joined(OR, [host6(EITHER, i) for i in range(7)]),
+    "hosts6_99": ladder([(host6(EITHER, i), MULTICAST)[i % 2] for i in range(50)]),
 }
 
 
