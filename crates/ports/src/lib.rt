@@ -473,6 +473,7 @@ fn hoist_ports(
     }
 }
 
+// The next header and the ports. Where no ports are required, as in most trees, no answer of a call is copied.
 fn hoist_ip6(
     link: LinkType,
     insns: &mut [u64],
