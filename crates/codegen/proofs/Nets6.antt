@@ -6,7 +6,9 @@ use mathlib.Core.Bool.{Bool, true, false, _&&_}
 use native.Mathlib.Omega.{arith}
 use native.Mathlib.Nat.{mod-eq-of-lt, pow-le-pow-right}
 use borrow.Author.Tests.{eqb-true, eqb-false, ne-eqb, leb-true, leb-false, le-leb}
-use lib.Bits.{bitAnd, and-mask}
+use lib.Bits.{bitAnd, and-mask, and-block}
+use lib.Arith.{digits-lt}
+use lib.Pow.{pow-add}
 use lib.Dec.{eqb, leb}
 use lib.ListN.{length}
 use Rattle.error.proofs.All.{either}
@@ -14,7 +16,7 @@ use Rattle.bpf.specs.Program.{Each}
 use Rattle.ast.proofs.Proper.{Half}
 use Rattle.codegen.specs.Emit.{netOffset, checkBlocks, checkIp6Addr, mask16, checkNet6, guarded, emitPrimitive}
 use Rattle.codegen.proofs.FactsHold.{and-left, and-right}
-use Rattle.codegen.specs.Nets6.{tabulate, masks, under, expected, lastTest, tests, Address, joined, Aside, Nets6}
+use Rattle.codegen.specs.Nets6.{tabulate, maskOf, masks, under, expected, lastTest, tests, Address, joined, Aside, Nets6}
 
 -- ---- the mask of a prefix: none of the bits, some, or all
 
@@ -57,7 +59,7 @@ module _ (p at s : ℕ) (ss ms es : List ℕ) (h : Half s) (others : checkNet6 (
       rw (e, f, ne-eqb (mask16 p) 0xffff (m .full), ne-eqb (mask16 p) 0 (m .none), net-none (p - 16) (at + 2) ss (omega (arith, leb-false 16 p f)))
 
 -- of any number of segments
-net-tests : (p at : ℕ) (a : List ℕ) (f : ℕ → ℕ) → ((i : ℕ) → f i ≡ mask16 (p - 16 * i)) → Each Half a
+net-tests : (p at : ℕ) (a : List ℕ) (f : ℕ → ℕ) → ((i : ℕ) → f i ≡ maskOf p i) → Each Half a
     → checkNet6 p at a ≡ tests (tabulate (length a) f) (under a (tabulate (length a) f)) at
 unfolding checkNet6 tests tabulate under
 net-tests p at [] f e h = refl
@@ -68,9 +70,7 @@ net-tests p at (s ∷ ss) f e h =
     rw z (step p at s ss ms (under ss ms) (h .0) others (eqb p 0) (leb 16 p) refl refl)
 
 pub follow : (p at : ℕ) (a : List ℕ) → Address a → checkNet6 p at a ≡ tests (masks p) (expected p a) at
-follow p at a h =
-    let f : ℕ → ℕ = λ i. mask16 (p - 16 * i) in
-    net-tests p at a f (λ i. refl) (h .1) ∙ ap (λ (n : ℕ). tests (tabulate n f) (under a (tabulate n f)) at) (h .0)
+follow p at a h = net-tests p at a (maskOf p) (λ i. refl) (h .1) ∙ ap (λ (n : ℕ). tests (tabulate n (maskOf p)) (under a (tabulate n (maskOf p))) at) (h .0)
 
 -- ---- the open exits
 
@@ -115,11 +115,54 @@ netmasks = refl
 netmask : (p : ℕ) → p < 256 → joined (masks p) ≡ 2 ^ 128 - 2 ^ (128 - p)
 netmask p h = eqb-true _ _ (every-at 256 p isNetmask netmasks h)
 
+-- ---- the expected segments as one number
+
+mask-small : (p : ℕ) → Half (mask16 p)
+mask-small p = let l : 2 ^ 0 ≤ 2 ^ (16 - p) = pow-le-pow-right (omega arith) {i = 0} {j = 16 - p} (omega arith) in omega arith
+
+joined-small : (ss : List ℕ) → Each Half ss → joined ss < 2 ^ (16 * length ss)
+unfolding joined
+joined-small [] h = omega arith
+joined-small (s ∷ ss) h =
+    let e : 2 ^ (16 * suc (length ss)) ≡ 2 ^ 16 * 2 ^ (16 * length ss) = ap (λ (n : ℕ). 2 ^ n) (omega arith) ∙ pow-add 2 16 (16 * length ss) in
+    rw e (digits-lt (h .0) (joined-small ss (h .1)))
+
+tabulated : (n : ℕ) (f : ℕ → ℕ) → length (tabulate n f) ≡ n
+unfolding tabulate
+tabulated zero f = refl
+tabulated (suc n) f = ap suc (tabulated n (λ i. f (suc i)))
+
+tabulate-small : (n : ℕ) (f : ℕ → ℕ) → ((i : ℕ) → Half (f i)) → Each Half (tabulate n f)
+unfolding tabulate
+tabulate-small zero f h = tt
+tabulate-small (suc n) f h = (h 0, tabulate-small n (λ i. f (suc i)) (λ i. h (suc i)))
+
+under-length : (ss ms : List ℕ) → length ss ≡ length ms → length (under ss ms) ≡ length ms
+unfolding under
+under-length [] ms e = e
+under-length (s ∷ ss) [] e = refl
+under-length (s ∷ ss) (m ∷ ms) e = ap suc (under-length ss ms (omega (arith, e)))
+
+under-joined : (ss ms : List ℕ) → length ss ≡ length ms → Each Half ss → Each Half ms → joined (under ss ms) ≡ bitAnd (joined ss) (joined ms)
+unfolding joined under
+under-joined [] [] e h k = refl
+under-joined [] (m ∷ ms) e h k = absurd (omega (arith, e))
+under-joined (s ∷ ss) [] e h k = absurd (omega (arith, e))
+under-joined (s ∷ ss) (m ∷ ms) e h k =
+    let same : length ss ≡ length ms = omega (arith, e) in
+    let low : joined ss < 2 ^ (16 * length ms) = rw (← same) (joined-small ss (h .1)) in
+    rw (under-length ss ms same, same, under-joined ss ms same (h .1) (k .1))
+    (sym (and-block (16 * length ms) s m (joined ss) (joined ms) low (joined-small ms (k .1))))
+
+masked : (p : ℕ) (a : List ℕ) → Address a → joined (expected p a) ≡ bitAnd (joined a) (joined (masks p))
+masked p a h = under-joined a (masks p) (h .0 ∙ sym (tabulated 8 (maskOf p))) (h .1) (tabulate-small 8 (maskOf p) (λ i. mask-small (p - 16 * i)))
+
 pub nets6 : Nets6
 unfolding emitPrimitive
 nets6 =
     record {
       netmask = netmask;
+      masked = masked;
       follow = follow;
       same = λ p q at a b h k m x. follow p at a h ∙ ap₂ (λ ms es. tests ms es at) m x ∙ sym (follow q at b k);
       aside = aside;

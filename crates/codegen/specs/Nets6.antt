@@ -1,5 +1,5 @@
--- T-02, a net in sixteen numbers, in the customer's order and words. The generator's tests of a net are `checkNet6` (Emit), which sees the
--- prefix and the address; `proofs/Nets6.antt` shows of it what the page below says.
+-- T-02, a net in sixteen numbers, in the customer's words. The generator's tests of a net are `checkNet6` (Emit), which sees the prefix and
+-- the address; `proofs/Nets6.antt` shows of it what the page below says.
 use Prim.Native.Nat.{ℕ, zero, suc, _+_, _*_, _-_, _^_, _<_}
 use mathlib.Core.Path.{_≡_}
 use mathlib.Core.List.{List, [], _∷_, _++_}
@@ -13,19 +13,23 @@ use Rattle.ast.specs.declared.LinkType.{LinkType}
 use Rattle.ast.specs.declared.Dir.{Dir}
 use Rattle.ast.specs.Tree.{Host6, Net6}
 use Rattle.codegen.specs.declared.Facts.{Facts}
-use Rattle.codegen.specs.Block.{half, ldAbs, andK, failure, leave, jf, Line, op, test, ja, Block}
+use Rattle.codegen.specs.Block.{half, ldAbs, andK, failure, leave, jf, op, test, ja, Block}
 use Rattle.codegen.specs.Emit.{netOffset, Code, need, check, checkBlocks, mask16, checkNet6, guarded, emitPrimitive}
 
--- ---- "the eight masks and the eight expected segments"
+-- ---- "work out the eight masks and the eight expected segments once for a net, before the segments are walked"
 
 -- so many numbers, by their place
 unfoldable pub tabulate : ℕ → (ℕ → ℕ) → List ℕ
 tabulate zero f = []
 tabulate (suc n) f = f 0 ∷ tabulate n (λ i. f (suc i))
 
--- the eight masks: of segment i the first p - 16 i bits count, none where that is 0 and all from 16 on
+-- the mask of segment i: its first p - 16 i bits count, none where that is 0 and all from 16 on
+abbrev pub maskOf : ℕ → ℕ → ℕ
+maskOf p i = mask16 (p - 16 * i)
+
+-- the eight masks
 abbrev pub masks : ℕ → List ℕ
-masks p = tabulate 8 (λ i. mask16 (p - 16 * i))
+masks p = tabulate 8 (maskOf p)
 
 -- segments, each under its mask
 unfoldable pub under : List ℕ → List ℕ → List ℕ
@@ -75,8 +79,10 @@ byNumbers L d ms es = guarded L 0x86dd (checkBlocks d (tests ms es (netOffset L 
 -- ---- the page
 
 pub record Nets6 : Type 0 where
-  -- "work out the eight masks ..": the prefix's bits, and all 128 from 128 on
+  -- "the eight masks": the prefix's bits, and all 128 from 128 on
   pub netmask : (p : ℕ) → p < 256 → joined (masks p) ≡ 2 ^ 128 - 2 ^ (128 - p)
+  -- "and the eight expected segments": the address under these masks
+  pub masked : (p : ℕ) (a : List ℕ) → Address a → joined (expected p a) ≡ bitAnd (joined a) (joined (masks p))
   -- "Shown for every prefix byte and address: the tests of source and of destination, .., follow from these sixteen numbers and the address's
   -- place in the frame alone.": `tests` sees nothing else
   pub follow : (p at : ℕ) (a : List ℕ) → Address a → checkNet6 p at a ≡ tests (masks p) (expected p a) at
@@ -84,6 +90,7 @@ pub record Nets6 : Type 0 where
   pub same : (p q at : ℕ) (a b : List ℕ) → Address a → Address b → masks p ≡ masks q → expected p a ≡ expected q b → checkNet6 p at a ≡ checkNet6 q at b
   -- ".. jt and jf aside, ..": whatever the numbers are
   pub aside : (ms es : List ℕ) (at : ℕ) → Aside (tests ms es at)
-  -- "once for a net": for both directions the same numbers. A host is a net with prefix 128
+  -- "Each instruction .. is unchanged.": of the generator's own conditions, with the same numbers for source and destination
   pub net : (L : LinkType) (d : Dir) (p : ℕ) (a : List ℕ) → Address a → emitPrimitive L (Net6 d p a) ≡ byNumbers L d (masks p) (expected p a)
+  -- and a host is a net with prefix 128
   pub host : (L : LinkType) (d : Dir) (a : List ℕ) → Address a → emitPrimitive L (Host6 d a) ≡ byNumbers L d (masks 128) (expected 128 a)

@@ -24,7 +24,7 @@ use Rattle.emit.proofs.Settling.{near-short}
 use Rattle.emit.proofs.Outcome.{Went}
 use Rattle.conditions.specs.declared.Shape.{Shape}
 use Rattle.conditions.specs.declared.Shape.the-variants.{Range, Mac}
-use Rattle.conditions.specs.Loads.{wanted, most}
+use Rattle.conditions.specs.Loads.{tested, most}
 
 -- ---- tests of several loads
 
@@ -41,10 +41,10 @@ tests-size (m ∷ ms) (e ∷ es) at =
 pub tests-short : (ms es : List ℕ) (at : ℕ) → length ms ≡ 8 → length (tests ms es at) ≤ 17
 tests-short ms es at e = omega (arith, tests-size ms es at)
 
-pub wanted-size : (h : Shape) (at : ℕ) → length (wanted h at) ≤ most h
+pub tested-size : (h : Shape) (at : ℕ) → length (tested h at) ≤ most h
 unfolding checkRange
-wanted-size (Range lo hi) at = omega arith
-wanted-size (Mac four two) at = omega arith
+tested-size (Range lo hi) at = omega arith
+tested-size (Mac four two) at = omega arith
 
 pub most-small : (h : Shape) → most h ≤ 17
 most-small (Range lo hi) = omega arith

@@ -42,9 +42,9 @@ abbrev pub macBlock : ℕ → ℕ → ℕ → Block
 macBlock four two at = check word at four ++ check half (at + 4) two
 
 -- the block that tests a port or an ether address at a place
-abbrev pub wanted : Shape → ℕ → Block
-wanted (Range lo hi) at = checkRange lo hi at
-wanted (Mac four two) at = macBlock four two at
+abbrev pub tested : Shape → ℕ → Block
+tested (Range lo hi) at = checkRange lo hi at
+tested (Mac four two) at = macBlock four two at
 
 -- and its lines at most
 abbrev pub most : Shape → ℕ

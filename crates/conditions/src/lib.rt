@@ -22,7 +22,6 @@ ghost use mathlib.Core.List.{[], _∷_, _++_};
 ghost use Prim.Native.Nat.{_+_, _≤_, _<_};
 ghost use Rattle.codegen.specs.Block.{half, word};
 ghost use Rattle.ast.specs.Tree.{EtherMulticast, IpBroadcast, IpMulticast, Ip6Multicast};
-ghost use Rattle.codegen.specs.Block as B;
 ghost use Rattle.codegen.specs.Emit as E;
 ghost use Rattle.codegen.specs.Nets6 as N;
 ghost use Rattle.emit.specs.Grown.{Room, Space, Place, Put, PutFailure, Grew, Reply, ReplyFailure};
@@ -270,14 +269,14 @@ pub fn check_addr4(
 
 // ---- several loads, by direction
 
-// A segment under a mask that is not full, the last one tested.
+// A segment under a mask that is not full, the last one tested; nothing under a mask of 0.
 fn check_last(
     insns: &mut [u64],
     failure: &mut [u16],
     p: Patches,
     mask: u32,
-    off: u32,
     expected: u32,
+    off: u32,
 ) -> Patches
     requires { ⌜ Space 3 (now insns) (now failure) p (p .failure) ⌝ }
     ensures { λ r. ⌜ PutFailure (N.lastTest mask expected off) (now (insns .entry)) (now (failure .entry)) p (now (insns .exit)) (now (failure .exit)) r ⌝ }
@@ -301,7 +300,7 @@ fn check_net6(insns: &mut [u64], failure: &mut [u16], p: Patches, net: Net6, off
     while i < 8 {
         let mask = net.masks[i];
         if mask != 0xffff {
-            return check_last(insns, failure, t, mask as u32, at, net.expected[i] as u32);
+            return check_last(insns, failure, t, mask as u32, net.expected[i] as u32, at);
         }
         t = check_halfword(insns, failure, t, at, net.expected[i] as u32);
         at += 2;
@@ -374,7 +373,7 @@ fn check_mac(
     check_halfword(insns, failure, q, off + 4, two)
 }
 
-fn check_wanted(
+fn check_shape(
     insns: &mut [u64],
     failure: &mut [u16],
     p: Patches,
@@ -382,7 +381,7 @@ fn check_wanted(
     off: u32,
 ) -> Patches
     requires { ⌜ Space (L.most shape) (now insns) (now failure) p (p .failure) × (off < 65536) ⌝ }
-    ensures { λ r. ⌜ PutFailure (L.wanted shape off) (now (insns .entry)) (now (failure .entry)) p (now (insns .exit)) (now (failure .exit)) r ⌝ }
+    ensures { λ r. ⌜ PutFailure (L.tested shape off) (now (insns .entry)) (now (failure .entry)) p (now (insns .exit)) (now (failure .exit)) r ⌝ }
 {
     match shape {
         Shape::Range(low, high) => check_range(insns, failure, p, low, high, off),
@@ -402,21 +401,21 @@ pub fn check_sides(
     dst: u32,
 ) -> Patches
     requires { ⌜ Room (L.most shape + 1 + L.most shape) (now insns) (now success) (now failure) p × (src < 65536) × (dst < 65536) ⌝ }
-    ensures { λ r. ⌜ Grew (E.checkBlocks dir (L.wanted shape src) (L.wanted shape dst)) (now (insns .entry)) (now (success .entry)) (now (failure .entry)) p (now (insns .exit)) (now (success .exit)) (now (failure .exit)) r ⌝ }
+    ensures { λ r. ⌜ Grew (E.checkBlocks dir (L.tested shape src) (L.tested shape dst)) (now (insns .entry)) (now (success .entry)) (now (failure .entry)) p (now (insns .exit)) (now (success .exit)) (now (failure .exit)) r ⌝ }
 {
     match dir {
-        Dir::Src => check_wanted(insns, failure, p, shape, src),
-        Dir::Dst => check_wanted(insns, failure, p, shape, dst),
+        Dir::Src => check_shape(insns, failure, p, shape, src),
+        Dir::Dst => check_shape(insns, failure, p, shape, dst),
         Dir::SrcAndDst => {
-            let q = check_wanted(insns, failure, p, shape, src);
-            check_wanted(insns, failure, q, shape, dst)
+            let q = check_shape(insns, failure, p, shape, src);
+            check_shape(insns, failure, q, shape, dst)
         }
         Dir::SrcOrDst => {
             let mark = p.failure;
-            let q = check_wanted(insns, failure, p, shape, src);
+            let q = check_shape(insns, failure, p, shape, src);
             let settled = otherwise(insns, success, failure, q, mark);
             let t = settled.patches;
-            check_wanted(insns, failure, t, shape, dst)
+            check_shape(insns, failure, t, shape, dst)
         }
     }
 }

@@ -9,7 +9,7 @@ use lib.Dec.{eqb, ltb}
 use lib.ListN.{length, getD}
 use lib.Pow.{pow-add, pow-pos, pow-mono, shl-shr}
 use Rattle.codegen.specs.Emit.{mask16}
-use Rattle.codegen.specs.Nets6.{tabulate, masks, under, expected}
+use Rattle.codegen.specs.Nets6.{tabulate, maskOf, masks, under, expected}
 use Rattle.codegen.proofs.Nets6.{mask-none, mask-full}
 use Rattle.nets.specs.Masks.{maskAt}
 
@@ -42,10 +42,10 @@ by-places [] = refl
 by-places (s ∷ ss) = ap (_∷_ s) (by-places ss)
 
 -- the mask of a segment by how many count whole and what is left
-mask-at : (p i : ℕ) → maskAt i (p / 16) (mask16 (p % 16)) ≡ mask16 (p - 16 * i)
+mask-at : (p i : ℕ) → maskAt i (p / 16) (mask16 (p % 16)) ≡ maskOf p i
 mask-at p i = go (ltb i (p / 16)) (eqb i (p / 16)) refl refl
   where
-    go : (t u : Bool) → ltb i (p / 16) ≡ t → eqb i (p / 16) ≡ u → cond t 0xffff (cond u (mask16 (p % 16)) 0) ≡ mask16 (p - 16 * i)
+    go : (t u : Bool) → ltb i (p / 16) ≡ t → eqb i (p / 16) ≡ u → cond t 0xffff (cond u (mask16 (p % 16)) 0) ≡ maskOf p i
     go true u e f = sym (mask-full (p - 16 * i) (omega (arith, ltb-true i (p / 16) e)))
     go false true e f = ap mask16 (omega (arith, eqb-true i (p / 16) f))
     go false false e f = sym (mask-none (p - 16 * i) (omega (arith, ltb-false i (p / 16) e, eqb-false i (p / 16) f)))

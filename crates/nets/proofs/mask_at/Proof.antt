@@ -1,4 +1,3 @@
-use borrow.Author.Needs.{needs}
 use native.Mathlib.Omega.{arith}
 use borrow.Author.Tests.{lt-ltb, le-ltb, eq-eqb, ne-eqb}
 use Rattle.nets.proofs.mask_at.Statement.{statement}

@@ -1,6 +1,6 @@
 use borrow.Author.Needs.{needs}
-use Rattle.conditions.proofs.check_wanted.Statement.{statement}
-use Rattle.conditions.proofs.check_wanted.Tie as tie
+use Rattle.conditions.proofs.check_shape.Statement.{statement}
+use Rattle.conditions.proofs.check_shape.Tie as tie
 
 check-range-requires : tie.Need-check-range-requires
 check-range-requires c κs = let p = c .before .before .before .before .before .before .before .pre in (rw (c .before .before .before .shape .given .1) at p) .0
@@ -14,8 +14,8 @@ returns c = rw (c .before .before .before .before .before .before .before .befor
 returns-2 : tie.Need-returns-2
 returns-2 c = rw (c .before .before .before .before .before .before .before .before .shape2 .given .1) (c .before .before .before .before .check-mac .ensures)
 
-pub check-wanted-spec : {M : Type 1} → statement M
-check-wanted-spec =
+pub check-shape-spec : {M : Type 1} → statement M
+check-shape-spec =
     tie.close
     (tie.spec
     (λ c. search needs)
