@@ -4,11 +4,11 @@ use mathlib.Core.Path.{_≡_, refl, sym, ap, ap₂, _∙_}
 use mathlib.Core.List.{List, [], _∷_}
 use mathlib.Core.Bool.{Bool, true, false, _&&_}
 use native.Mathlib.Omega.{arith}
-use native.Mathlib.Nat.{mod-eq-of-lt, pow-le-pow-right}
+use native.Mathlib.Nat.{mod-eq-of-lt}
 use borrow.Author.Tests.{eqb-true, eqb-false, ne-eqb, leb-true, leb-false, le-leb}
 use lib.Bits.{bitAnd, and-mask, and-block}
 use lib.Arith.{digits-lt}
-use lib.Pow.{pow-add}
+use lib.Pow.{pow-pos, pow-mono, pow-add, pow-sub-lt}
 use lib.Dec.{eqb, leb}
 use lib.ListN.{length}
 use Rattle.error.proofs.All.{either}
@@ -32,8 +32,8 @@ record Some (p : ℕ) : Type 0 where
 
 mask-some : (p : ℕ) → 0 < p → p < 16 → Some p
 mask-some p h k =
-    let low : 2 ^ 1 ≤ 2 ^ (16 - p) = pow-le-pow-right (omega arith) {i = 1} {j = 16 - p} (omega arith) in
-    let high : 2 ^ (16 - p) ≤ 2 ^ 15 = pow-le-pow-right (omega arith) {i = 16 - p} {j = 15} (omega arith) in
+    let low : 2 ^ 1 ≤ 2 ^ (16 - p) = pow-mono {i = 1} {j = 16 - p} (omega arith) in
+    let high : 2 ^ (16 - p) ≤ 2 ^ 15 = pow-mono {i = 16 - p} {j = 15} (omega arith) in
     record { none = λ e. omega arith; full = λ e. omega arith }
 
 -- under the full mask a segment is itself
@@ -118,7 +118,7 @@ netmask p h = eqb-true _ _ (every-at 256 p isNetmask netmasks h)
 -- ---- the expected segments as one number
 
 mask-small : (p : ℕ) → Half (mask16 p)
-mask-small p = let l : 2 ^ 0 ≤ 2 ^ (16 - p) = pow-le-pow-right (omega arith) {i = 0} {j = 16 - p} (omega arith) in omega arith
+mask-small p = pow-sub-lt 16 (pow-pos (16 - p))
 
 joined-small : (ss : List ℕ) → Each Half ss → joined ss < 2 ^ (16 * length ss)
 unfolding joined
@@ -126,16 +126,6 @@ joined-small [] h = omega arith
 joined-small (s ∷ ss) h =
     let e : 2 ^ (16 * suc (length ss)) ≡ 2 ^ 16 * 2 ^ (16 * length ss) = ap (λ (n : ℕ). 2 ^ n) (omega arith) ∙ pow-add 2 16 (16 * length ss) in
     rw e (digits-lt (h .0) (joined-small ss (h .1)))
-
-tabulated : (n : ℕ) (f : ℕ → ℕ) → length (tabulate n f) ≡ n
-unfolding tabulate
-tabulated zero f = refl
-tabulated (suc n) f = ap suc (tabulated n (λ i. f (suc i)))
-
-tabulate-small : (n : ℕ) (f : ℕ → ℕ) → ((i : ℕ) → Half (f i)) → Each Half (tabulate n f)
-unfolding tabulate
-tabulate-small zero f h = tt
-tabulate-small (suc n) f h = (h 0, tabulate-small n (λ i. f (suc i)) (λ i. h (suc i)))
 
 under-length : (ss ms : List ℕ) → length ss ≡ length ms → length (under ss ms) ≡ length ms
 unfolding under
@@ -155,7 +145,10 @@ under-joined (s ∷ ss) (m ∷ ms) e h k =
     (sym (and-block (16 * length ms) s m (joined ss) (joined ms) low (joined-small ms (k .1))))
 
 masked : (p : ℕ) (a : List ℕ) → Address a → joined (expected p a) ≡ bitAnd (joined a) (joined (masks p))
-masked p a h = under-joined a (masks p) (h .0 ∙ sym (tabulated 8 (maskOf p))) (h .1) (tabulate-small 8 (maskOf p) (λ i. mask-small (p - 16 * i)))
+unfolding tabulate
+masked p a h =
+    let m : (i : ℕ) → Half (maskOf p i) = λ i. mask-small (p - 16 * i) in
+    under-joined a (masks p) (h .0) (h .1) (m 0, (m 1, (m 2, (m 3, (m 4, (m 5, (m 6, (m 7, tt))))))))
 
 pub nets6 : Nets6
 unfolding emitPrimitive

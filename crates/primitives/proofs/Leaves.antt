@@ -22,7 +22,7 @@ use Rattle.codegen.specs.declared.Known.the-variants.{Unknown, Is}
 use Rattle.codegen.specs.declared.Facts.{Facts}
 use Rattle.codegen.specs.Protocols.{rowOf, smallOf, known, l4setFor}
 use Rattle.codegen.specs.Guards.{primitiveGuards}
-use Rattle.codegen.specs.Emit.{netOffset, checkLoads, checkBlocks, checkIp6Addr, checkNet6, checkRange, checkMac, guarded, emitRow, ported, ether, emitPrimitive}
+use Rattle.codegen.specs.Emit.{netOffset, Code, checkLoads, checkBlocks, checkIp6Addr, checkNet6, checkRange, checkMac, guarded, emitRow, ported, ether, emitPrimitive}
 use Rattle.codegen.proofs.Nets6.{whole-prefix}
 use Rattle.facts.specs.declared.SetResult.{SetResult}
 use Rattle.facts.specs.declared.SetResult.the-variants as Set
@@ -89,8 +89,12 @@ module _ {s : List ℕ} {i : ℕ} (h : LeafHere s i) (L : LinkType) (g : Facts) 
   unfolding emitPrimitive opOf
   host4 k d₀ a₀ = rw (kind11 h k, d₀, a₀)
 
+  -- the tests of an IPv6 address as far as a prefix
+  abbrev pub byPrefix : Dir → ℕ → List ℕ → Out Code
+  byPrefix d p a = guarded L 0x86dd (checkBlocks d (checkNet6 p (netOffset L + 8) a) (checkNet6 p (netOffset L + 24) a)) g
+
   host6 : {d : Dir} {a : List ℕ} → be 1 (place i) s ≡ 12 → d ≡ dirOf (be 1 (place i + 1) s) → a ≡ segmentsAt 8 (place i + 8) s
-      → emitPrimitive L (leafAt s i) g ≡ guarded L 0x86dd (checkBlocks d (checkNet6 128 (netOffset L + 8) a) (checkNet6 128 (netOffset L + 24) a)) g
+      → emitPrimitive L (leafAt s i) g ≡ byPrefix d 128 a
   unfolding emitPrimitive
   host6 k d₀ a₀ = rw (kind12 h k, d₀, a₀, whole-address (netOffset L + 8) (place i + 8) s, whole-address (netOffset L + 24) (place i + 8) s)
 
@@ -100,16 +104,16 @@ module _ {s : List ℕ} {i : ℕ} (h : LeafHere s i) (L : LinkType) (g : Facts) 
   net k d₀ a₀ m₀ = rw (kind13 h k, d₀, a₀, m₀)
 
   net6 : {d : Dir} {p : ℕ} {a : List ℕ} → be 1 (place i) s ≡ 14 → d ≡ dirOf (be 1 (place i + 1) s) → p ≡ be 1 (place i + 3) s → a ≡ segmentsAt 8 (place i + 8) s
-      → emitPrimitive L (leafAt s i) g ≡ guarded L 0x86dd (checkBlocks d (checkNet6 p (netOffset L + 8) a) (checkNet6 p (netOffset L + 24) a)) g
+      → emitPrimitive L (leafAt s i) g ≡ byPrefix d p a
   unfolding emitPrimitive
   net6 k d₀ p₀ a₀ = rw (kind14 h k, d₀, p₀, a₀)
 
-  -- both by the prefix of the kind
+  -- a host and a net by the prefix of the kind
   pub address6 : {d : Dir} {p k : ℕ} {a : List ℕ} → k ≡ be 1 (place i) s → ((k ≡ 12 → ⊥) → k ≡ 14) → d ≡ dirOf (be 1 (place i + 1) s) → p ≡ prefixOf s i k → a ≡ segmentsAt 8 (place i + 8) s
-      → emitPrimitive L (leafAt s i) g ≡ guarded L 0x86dd (checkBlocks d (checkNet6 p (netOffset L + 8) a) (checkNet6 p (netOffset L + 24) a)) g
+      → emitPrimitive L (leafAt s i) g ≡ byPrefix d p a
   address6 {d} {p} {k} {a} e other d₀ p₀ a₀ = go (eqb k 12) refl
     where
-      go : (t : Bool) → eqb k 12 ≡ t → emitPrimitive L (leafAt s i) g ≡ guarded L 0x86dd (checkBlocks d (checkNet6 p (netOffset L + 8) a) (checkNet6 p (netOffset L + 24) a)) g
+      go : (t : Bool) → eqb k 12 ≡ t → emitPrimitive L (leafAt s i) g ≡ byPrefix d p a
       go true t = let q : p ≡ 128 = p₀ ∙ rw t in rw q (host6 (sym e ∙ eqb-true k 12 t) d₀ a₀)
       go false t = net6 (sym e ∙ other (eqb-false k 12 t)) d₀ (p₀ ∙ rw t) a₀
 

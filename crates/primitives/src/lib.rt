@@ -100,8 +100,18 @@ fn emit_address(
         }
         _ => {
             let segments = reader::segments_at(tree, i);
-            let bits = prefix_of(tree, i, kind);
-            emit_net6(link, insns, success, failure, p, facts, dir, bits, segments)
+            let prefix = prefix_of(tree, i, kind);
+            emit_net6(
+                link,
+                insns,
+                success,
+                failure,
+                p,
+                facts,
+                dir,
+                prefix,
+                segments,
+            )
         }
     }
 }
