@@ -45,7 +45,7 @@ FILES = {
     "nets6_13": joined(OR, [net6(i) for i in range(7)]),
     "nets6_99": ladder([(net6(i), MULTICAST)[i % 2] for i in range(50)]),
     "nets6_127": ladder([(net6(i), MULTICAST)[i % 2] for i in range(64)]),
-    # Prefixes of all lengths, most of which end within a segment.
+    # 25 prefixes from 0 to 116 in no order, most of which end within a segment.
     "prefix_99": ladder([(net6(i, 37 * i % 129), MULTICAST)[i % 2] for i in range(50)]),
     "hosts6_7": joined(OR, [host6(EITHER, i) for i in range(4)]),
     "hosts6_13": joined(OR, [host6(EITHER, i) for i in range(7)]),

@@ -73,6 +73,17 @@ net-tests p at (s ∷ ss) f e h =
 pub follow : (p at : ℕ) (a : List ℕ) → Address a → checkNet6 p at a ≡ tests (masks p) (expected p a) at
 follow p at a h = net-tests p at a (maskOf p) (λ i. refl) (h .1) ∙ ap (λ (n : ℕ). tests (tabulate n (maskOf p)) (under a (tabulate n (maskOf p))) at) (h .0)
 
+-- past the shorter of two lists nothing is expected, and nothing tested
+unmasked : (ss : List ℕ) (at : ℕ) → (under ss [] ≡ []) × (tests [] ss at ≡ [])
+unfolding under tests
+unmasked [] at = (refl, refl)
+unmasked (s ∷ ss) at = (refl, refl)
+
+unmatched : (ms : List ℕ) (at : ℕ) → (under [] ms ≡ []) × (tests ms [] at ≡ [])
+unfolding under tests
+unmatched [] at = (refl, refl)
+unmatched (m ∷ ms) at = (refl, refl)
+
 -- ---- the open exits
 
 last-aside : (m e at : ℕ) → Aside (lastTest m e at)

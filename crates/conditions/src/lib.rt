@@ -15,6 +15,7 @@ use emit::push;
 use emit::test_failure;
 use emit::test_success;
 use error::Refusal;
+use nets::FULL;
 use nets::Net6;
 use nets::net6_of;
 ghost use mathlib.Core.Path.{_≡_};
@@ -299,7 +300,7 @@ fn check_net6(insns: &mut [u64], failure: &mut [u16], p: Patches, net: Net6, off
     let mut at = off;
     while i < 8 {
         let mask = net.masks[i];
-        if mask != 0xffff {
+        if mask != FULL {
             return check_last(insns, failure, t, mask as u32, net.expected[i] as u32, at);
         }
         t = check_halfword(insns, failure, t, at, net.expected[i] as u32);

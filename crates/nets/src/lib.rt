@@ -1,9 +1,15 @@
-// A net in sixteen numbers: the masks of its eight segments, and what its address leaves under them.
+// A net in sixteen numbers: the masks of its eight segments, and what they leave of its address.
 ghost use mathlib.Core.Path.{_≡_};
 ghost use Prim.Native.Nat.{_<_};
 ghost use Rattle.codegen.specs.Emit as E;
 ghost use Rattle.codegen.specs.Nets6 as N;
 ghost use Rattle.nets.specs.Masks.{maskAt};
+
+// The bits of a segment.
+const BITS: u8 = 16;
+
+// The mask of a segment that counts whole.
+pub const FULL: u16 = 0xffff;
 
 pub struct Net6 {
     pub masks: [u16; 8],
@@ -23,7 +29,7 @@ fn mask_at(i: u8, full: u8, part: u16) -> u16
     ensures { λ r. ⌜ r ≡ maskAt i full part ⌝ }
 {
     if i < full {
-        return 0xffff;
+        return FULL;
     }
     if i == full { part } else { 0 }
 }
@@ -31,8 +37,8 @@ fn mask_at(i: u8, full: u8, part: u16) -> u16
 fn masks_of(prefix: u8) -> [u16; 8]
     ensures { λ r. ⌜ r ≡ N.masks prefix ⌝ }
 {
-    let full = prefix / 16;
-    let part = mask16((prefix % 16) as u32) as u16;
+    let full = prefix / BITS;
+    let part = mask16((prefix % BITS) as u32) as u16;
     [
         mask_at(0, full, part),
         mask_at(1, full, part),

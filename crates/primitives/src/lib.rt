@@ -60,13 +60,16 @@ fn emit_proto(
     }
 }
 
-// The prefix of an IPv6 address, 128 for a host.
+// A host is tested as a net with this prefix.
+const HOST_PREFIX: u8 = 128;
+
+// The prefix of an IPv6 address by its kind.
 fn prefix_of(tree: &[u8], i: usize, kind: u8) -> u8
     requires { ⌜ LeafHere (now tree) i ⌝ }
     ensures { λ r. ⌜ r ≡ K.prefixOf (now (tree .entry)) i kind ⌝ }
 {
     if kind == 12 {
-        return 128;
+        return HOST_PREFIX;
     }
     reader::byte_at(tree, i, 3)
 }
