@@ -14,7 +14,7 @@ use lib.ListN.{length}
 use Rattle.error.proofs.All.{either}
 use Rattle.bpf.specs.Program.{Each}
 use Rattle.ast.proofs.Proper.{Half}
-use Rattle.codegen.specs.Block.{Op, jeq, success, failure, skip, leave, jt, jf, Line, op, test, ja, Block}
+use Rattle.codegen.specs.Block.{Op, Test, failure, Exit, leave, Slot, jf, op, test, ja, Block}
 use Rattle.codegen.specs.Emit.{netOffset, need, checkBlocks, checkIp6Addr, mask16, checkNet6, guarded, emitPrimitive}
 use Rattle.codegen.proofs.FactsHold.{and-left, and-right}
 use Rattle.codegen.specs.Nets6.{tabulate, maskOf, masks, under, expected, lastTest, tests, Address, joined, Aside, Nets6}
@@ -95,17 +95,10 @@ aside [] es at = tt
 aside (m ∷ ms) [] at = tt
 aside (m ∷ ms) (e ∷ es) at = either Aside (eqb m 0xffff) (refl, refl, aside ms es (at + 2)) (last-aside m e at)
 
--- and nothing else passes for it: not a distance, the other way out, the other field, or a `ja`
-abbrev Closed : Line → Type 0
-Closed l = (o : Op) (k : ℕ) (b : Block) → Aside (op o ∷ need k ∷ l ∷ b) → ⊥
-
-closed : Closed (test jeq 0 jf (skip 0)) × Closed (test jeq 0 jf (leave success)) × Closed (test jeq 0 jt (leave failure)) × Closed (ja (leave failure))
-closed = (
-  λ o k b h. let e = h .2 .1 in let z : _≡_ {A = ℕ} 0 1 = cc in omega arith,
-  λ o k b h. let e = h .2 .1 in let z : _≡_ {A = ℕ} 0 1 = cc in omega arith,
-  λ o k b h. let e = h .2 .0 in let z : _≡_ {A = ℕ} 0 1 = cc in omega arith,
-  λ o k b h. h .2,
-)
+-- and nothing else passes for it, behind other lines too: no other field, no other way out, no distance, and no `ja`
+no-others : (o : Op) (t : Test) (k j : ℕ) (s : Slot) (e : Exit) (b : Block)
+    → (Aside (op o ∷ need k ∷ test t j s e ∷ b) → (s ≡ jf) × (e ≡ leave failure)) × (Aside (op o ∷ need k ∷ ja e ∷ b) → ⊥)
+no-others o t k j s e b = (λ h. (h .2 .0, h .2 .1), λ h. h .2)
 
 -- ---- hosts
 
