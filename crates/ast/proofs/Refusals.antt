@@ -1,39 +1,41 @@
 -- The refusals of a tree file are 1 to 4.
-use Prim.Native.Nat.{ℕ, zero, suc, _+_, _≤_}
+use Prim.Native.Nat.{ℕ, zero, suc, _+_}
 use mathlib.Core.List.{List, [], _∷_}
-use native.Mathlib.Omega.{arith}
 use lib.Dec.{eqb}
 use Rattle.error.specs.declared.Refusal.{Refusal}
-use Rattle.error.specs.Answer.{numberOf}
+use Rattle.error.specs.Answer.{Numbered}
 use Rattle.error.proofs.All.{Turned, turned-bind, turned-cond}
 use Rattle.bpf.specs.Bytes.{be}
 use Rattle.ast.specs.Tree.{Expr}
 use Rattle.ast.specs.Record.{Record, recordAt, Node, AndNode, OrNode, NotNode, LeafNode, Kind, kinds, good, nodeBy, nodeAt}
 use Rattle.ast.specs.File.{linkOf, strange, header, wrong, count, nodesAt, grow, treesOf, only, parse}
 
+abbrev pub early : List ℕ
+early = 1 ∷ 2 ∷ 3 ∷ 4 ∷ []
+
 abbrev pub Early : Refusal → Type 0
-Early r = (1 ≤ numberOf r) × (numberOf r ≤ 4)
+Early = Numbered early
 
 link-turned : (b : ℕ) → Turned Early (linkOf b)
-link-turned zero = omega arith
+link-turned zero = tt
 link-turned (suc zero) = tt
 link-turned (suc (suc zero)) = tt
 link-turned (suc (suc (suc zero))) = tt
-link-turned (suc (suc (suc (suc n)))) = omega arith
+link-turned (suc (suc (suc (suc n)))) = tt
 
 header-turned : (s : List ℕ) → Turned Early (header s)
 unfolding header
-header-turned s = turned-cond Early (strange s) _ _ (omega arith) (link-turned (be 1 5 s))
+header-turned s = turned-cond Early (strange s) _ _ tt (link-turned (be 1 5 s))
 
 count-turned : (s : List ℕ) → Turned Early (count s)
 unfolding count
-count-turned s = turned-cond Early (wrong s) _ _ (omega arith) tt
+count-turned s = turned-cond Early (wrong s) _ _ tt tt
 
 node-turned : (ks : List Kind) (r : Record) → Turned Early (nodeBy ks r)
 unfolding nodeBy
-node-turned [] r = omega arith
+node-turned [] r = tt
 node-turned (k ∷ ks) r =
-    turned-cond Early (eqb (r .kind) (k .number)) _ _ (turned-cond Early (good k r) _ _ tt (omega arith)) (node-turned ks r)
+    turned-cond Early (eqb (r .kind) (k .number)) _ _ (turned-cond Early (good k r) _ _ tt tt) (node-turned ks r)
 
 nodes-turned : (n at : ℕ) (s : List ℕ) → Turned Early (nodesAt n at s)
 unfolding nodesAt
@@ -43,13 +45,13 @@ nodes-turned (suc n) at s =
 
 grow-turned : (x : Node) (ts : List Expr) → Turned Early (grow x ts)
 unfolding grow
-grow-turned AndNode [] = omega arith
-grow-turned AndNode (l ∷ []) = omega arith
+grow-turned AndNode [] = tt
+grow-turned AndNode (l ∷ []) = tt
 grow-turned AndNode (l ∷ r ∷ ts) = tt
-grow-turned OrNode [] = omega arith
-grow-turned OrNode (l ∷ []) = omega arith
+grow-turned OrNode [] = tt
+grow-turned OrNode (l ∷ []) = tt
 grow-turned OrNode (l ∷ r ∷ ts) = tt
-grow-turned NotNode [] = omega arith
+grow-turned NotNode [] = tt
 grow-turned NotNode (t ∷ ts) = tt
 grow-turned (LeafNode p) ts = tt
 
@@ -59,11 +61,11 @@ trees-turned [] = tt
 trees-turned (x ∷ xs) = turned-bind Early (treesOf xs) (grow x) (trees-turned xs) (grow-turned x)
 
 only-turned : (ts : List Expr) → Turned Early (only ts)
-only-turned [] = omega arith
+only-turned [] = tt
 only-turned (t ∷ []) = tt
-only-turned (t ∷ u ∷ ts) = omega arith
+only-turned (t ∷ u ∷ ts) = tt
 
-pub parse-turned : (s : List ℕ) → Turned (λ r. (1 ≤ numberOf r) × (numberOf r ≤ 4)) (parse s)
+pub parse-turned : (s : List ℕ) → Turned Early (parse s)
 unfolding parse
 parse-turned s =
     turned-bind Early (header s) _ (header-turned s)

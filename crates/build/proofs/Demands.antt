@@ -11,7 +11,8 @@ use lib.Dec.{ltb}
 use borrow.Author.Tests.{ltb-false, ltb-true, lt-ltb, le-ltb}
 use Rattle.error.specs.declared.Refusal.{Refusal}
 use Rattle.error.specs.declared.Refusal.the-variants.{ShortBuffer}
-use Rattle.error.specs.Answer.{Out, refused, done, numberOf}
+use Rattle.error.specs.Answer.{Out, refused, done, numberOf, Numbered}
+use Rattle.error.proofs.Among.{numbered-more}
 use Rattle.error.proofs.All.{All, all-bind, all-of, Turned, turned-bind, turned-map}
 use Rattle.bpf.specs.declared.Insn.{Insn}
 use Rattle.bpf.specs.Bytes.{AreBytes}
@@ -25,7 +26,7 @@ use Rattle.vm.proofs.Steps.{inner-steps}
 use Rattle.vm.proofs.Bytes.{run-program}
 use Rattle.ast.specs.declared.LinkType.{LinkType}
 use Rattle.ast.specs.File.{Filter, header, parse}
-use Rattle.ast.proofs.Refusals.{parse-turned}
+use Rattle.ast.proofs.Refusals.{early, parse-turned}
 use Rattle.ast.proofs.Bounds.{parse-proper, parse-header}
 use Rattle.direct.specs.declared.DirectResult.{DirectResult}
 use Rattle.direct.specs.declared.DirectResult.the-variants.{Is}
@@ -33,14 +34,14 @@ use Rattle.direct.specs.Reading.{networkStart, reads}
 use Rattle.direct.specs.Direct.{direct}
 use Rattle.codegen.specs.Compile.{compile}
 use Rattle.codegen.proofs.Conditions.{start}
-use Rattle.codegen.proofs.Refusals.{compile-turned}
+use Rattle.codegen.proofs.Refusals.{late, compile-turned}
 use Rattle.codegen.proofs.Sound.{Sound, compile-sound}
 use Rattle.codegen.proofs.Tells.{Tells, compile-tells}
 use Rattle.build.specs.declared.BuildResult.{BuildResult}
 use Rattle.build.specs.declared.BuildResult.the-variants.{Count, Refused}
 use Rattle.build.specs.Build.{rejected, placed, tooShort, into, program, build}
 use Rattle.build.specs.Demands as D
-use Rattle.build.specs.Demands.{Calls, Kept, Frame, Begins, Demand1, Demand3, Demands}
+use Rattle.build.specs.Demands.{buildNumbers, Calls, Kept, Frame, Begins, Demand1, Demand3, Demands}
 
 -- ---- the definitions' own answers, of which the demands are proved first
 
@@ -133,28 +134,33 @@ steady (done p) lent r e h other = go (tooShort lent p) e
 
 -- the number of a refusal
 
-OneToEight : Refusal → Type 0
-OneToEight r = (1 ≤ numberOf r) × (numberOf r ≤ 8)
+-- of a tree file's own
+own : List ℕ
+own = early ++ late
 
-program-turned : (T : List ℕ) → Turned OneToEight (program T)
-unfolding program OneToEight
+Own : Refusal → Type 0
+Own = Numbered own
+
+program-turned : (T : List ℕ) → Turned Own (program T)
+unfolding program Own own
 program-turned T =
-    turned-bind OneToEight (parse T) _ (turned-map _ OneToEight (parse T) (λ r h. omega arith) (parse-turned T))
-    (λ t. turned-map _ OneToEight (compile (t .link) (t .tree)) (λ r h. omega arith) (compile-turned (t .link) (t .tree)))
+    turned-bind Own (parse T) _ (turned-map _ Own (parse T) (numbered-more early own tt) (parse-turned T))
+    (λ t. turned-map _ Own (compile (t .link) (t .tree)) (numbered-more late own tt) (compile-turned (t .link) (t .tree)))
 
-numbered : (o : Out (List Insn)) (lent : ℕ) (r : Refusal) → Turned OneToEight o → into lent o .answer ≡ Refused r → (1 ≤ numberOf r) × (numberOf r ≤ 9)
-unfolding OneToEight
-numbered (refused s) lent r h e = omega (arith, ap numberOf (refusal e))
+numbered : (o : Out (List Insn)) (lent : ℕ) (r : Refusal) → Turned Own o → into lent o .answer ≡ Refused r → Numbered buildNumbers r
+unfolding Own own
+numbered (refused s) lent r h e = rw (← refusal e) (numbered-more own buildNumbers tt s h)
 numbered (done p) lent r h e = go (tooShort lent p) e
   where
-    go : (b : Bool) → cond b (rejected lent ShortBuffer) (placed lent p) .answer ≡ Refused r → (1 ≤ numberOf r) × (numberOf r ≤ 9)
-    go true e = omega (arith, ap numberOf (refusal e))
+    go : (b : Bool) → cond b (rejected lent ShortBuffer) (placed lent p) .answer ≡ Refused r → Numbered buildNumbers r
+    go true e = rw (← refusal e) tt
     go false e = never (sym e)
 
-last-of : (o : Out (List Insn)) (lent : ℕ) → Turned OneToEight o → into lent o .answer ≡ Refused ShortBuffer
+-- 9 is not one of them
+last-of : (o : Out (List Insn)) (lent : ℕ) → Turned Own o → into lent o .answer ≡ Refused ShortBuffer
     → (count : ℕ) × (lent < 8 * count) × (into (8 * count) o .answer ≡ Count count)
-unfolding OneToEight
-last-of (refused s) lent h e = absurd (omega (arith, ap numberOf (refusal e)))
+unfolding Own own
+last-of (refused s) lent h e = absurd (subst (Numbered own) (refusal e) h)
 last-of (done p) lent h e = go (tooShort lent p) refl e
   where
     go : (b : Bool) → tooShort lent p ≡ b → cond b (rejected lent ShortBuffer) (placed lent p) .answer ≡ Refused ShortBuffer

@@ -1,3 +1,4 @@
 pub mod Sheet
 pub mod Demands
+pub mod Cooked
 pub mod Building

@@ -19,7 +19,7 @@ pub record Built : Type 0 where
   pub answer : BuildResult
   pub buffer : List ℕ
 
--- "A refusal of 1 to 9 zeroes the whole program buffer."
+-- "A refusal of 1 to 9 zeroes the whole program buffer."; T-03, of 15: "zeroing the buffer, like 7"
 abbrev pub rejected : ℕ → Refusal → Built
 rejected lent r = record { answer = Refused r; buffer = replicate lent 0 }
 
@@ -36,7 +36,8 @@ abbrev pub into : ℕ → Out (List Insn) → Built
 into lent (refused r) = rejected lent r
 into lent (done p) = cond (tooShort lent p) (rejected lent ShortBuffer) (placed lent p)
 
--- a file's program: "1, 2, 3, 4 come in that order over the whole file. Of 5 to 8 the one the source meets first is given"
+-- a file's program: "1, 2, 3, 4 come in that order over the whole file. Of 5 to 8 the one the source meets first is given"; T-03,
+-- of 15: "met in the source's walk at that leaf"
 unfoldable pub program : List ℕ → Out (List Insn)
 program tree = parse tree >>= λ t. compile (t .link) (t .tree)
 

@@ -2,13 +2,13 @@
 -- `proofs/Demands.antt` proves them of every tree file from what these functions promise.
 use Prim.Native.Nat.{ℕ, _+_, _*_, _≤_, _<_}
 use mathlib.Core.Path.{_≡_}
-use mathlib.Core.List.{List}
+use mathlib.Core.List.{List, [], _∷_}
 use mathlib.Core.Logic.{_↔_, _⊎_}
 use mathlib.Core.Bool.{true, false}
 use lib.ListN.{length, replicate, take}
 use Rattle.error.specs.declared.Refusal.{Refusal}
 use Rattle.error.specs.declared.Refusal.the-variants.{ShortBuffer}
-use Rattle.error.specs.Answer.{done, numberOf}
+use Rattle.error.specs.Answer.{done, numberOf, Numbered}
 use Rattle.bpf.specs.Bytes.{AreBytes}
 use Rattle.bpf.specs.Program.{insnAt, targets, Each}
 use Rattle.vm.specs.declared.Verdict.{Verdict}
@@ -77,6 +77,10 @@ Gets c P F v = HasVerdict v (c .ran P F)
 abbrev pub ReadsPast : Calls → List ℕ → List ℕ → Type 0
 ReadsPast c P F = Gets c P F Short
 
+-- the numbers of a build: document 01's 1 to 9, and 15, "cooked address" (T-03)
+abbrev pub buildNumbers : List ℕ
+buildNumbers = 1 ∷ 2 ∷ 3 ∷ 4 ∷ 5 ∷ 6 ∷ 7 ∷ 8 ∷ 9 ∷ 15 ∷ []
+
 -- ---- demand 1, of the calls for a tree file
 
 pub record Demand1 (c : Calls) : Type 0 where
@@ -88,8 +92,8 @@ pub record Demand1 (c : Calls) : Type 0 where
   -- "and a run over a frame of at most 65,535 bytes stops within as many steps as there are instructions."
   pub stops : (lent count : ℕ) → Answers c lent count → (F : List ℕ) → length F ≤ 65535
       → (o : Outcome) × (c .ran (programOf c lent count) F ≡ Ran o) × (o .steps ≤ count)
-  -- "Every other tree file is turned down with the number that document 01 fixes,": `build` gives it; it is one of 1 to 9,
-  pub refuses : (lent : ℕ) (r : Refusal) → Refuses c lent r → (1 ≤ numberOf r) × (numberOf r ≤ 9)
+  -- "Every other tree file is turned down with the number that document 01 fixes,": `build` gives it; it is one of these,
+  pub refuses : (lent : ℕ) (r : Refusal) → Refuses c lent r → Numbered buildNumbers r
   -- 9 exactly where less is lent than a count needs that is answered when it is lent, so that it is last; the others whatever is lent
   pub enough : (lent count : ℕ) → Answers c lent count → (other : ℕ) → 8 * count ≤ other
       → Answers c other count × (programOf c other count ≡ programOf c lent count)

@@ -1,3 +1,4 @@
 pub mod Build
 pub mod Demands
+pub mod Cooked
 pub mod Promises

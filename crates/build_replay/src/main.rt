@@ -1,4 +1,5 @@
-// Builds stored tree files and counts the differences from what the Rust answered.
+// Builds stored tree files and counts the differences from what the Rust answered, or of cooked trees, which are no longer the Rust's, the
+// second generator.
 //
 // Standard input, made by tools/oracle/builds.py, has seven groups: a count of two bytes, then that many cases. All numbers are big-endian.
 // A case has five bytes, then the tree file and the program:
@@ -18,10 +19,13 @@ const FILLED: u8 = 0x5a;
 // The most that is lent.
 const MOST: usize = 32768;
 
-// How many builds had a count, then how many had each refusal of 1 to 9, then how many differ.
-type Tally = [u64; 11];
+// The refusals of a build are below this.
+const REFUSALS: usize = 16;
 
-// The Rust's answer, and the tree file's length.
+// How many builds had a count, then by its number how many had each refusal, then how many differ.
+type Tally = [u64; 17];
+
+// The stored answer, and the tree file's length.
 struct Case {
     refusal: u32,
     count: u32,
@@ -66,7 +70,11 @@ fn print_place(group: &[u8], index: usize) {
     number(index as u64);
 }
 
+// A refusal that no build had is left out.
 fn print_refusal(refusal: usize, builds: u64) {
+    if builds == 0 {
+        return;
+    }
     text(b"refused ");
     number(refusal as u64);
     text(b": ");
@@ -76,7 +84,7 @@ fn print_refusal(refusal: usize, builds: u64) {
 
 fn print_refusals(tally: Tally) {
     let mut i = 1;
-    while i < 10 {
+    while i < REFUSALS {
         print_refusal(i, tally[i]);
         i += 1;
     }
@@ -85,18 +93,18 @@ fn print_refusals(tally: Tally) {
 // ---- the tally
 
 fn add(tally: &mut Tally, i: usize)
-    requires { ⌜ i < 11 ⌝ }
+    requires { ⌜ i < 17 ⌝ }
 {
     tally[i] = wrapping_add_u64(tally[i], 1);
 }
 
 // The place of an answer: 0 for a count, else the refusal's number.
 fn place_of(answer: u32) -> usize
-    ensures { λ r. ⌜ r < 10 ⌝ }
+    ensures { λ r. ⌜ r < 16 ⌝ }
 {
-    let refusal = answer / 65536;
-    if refusal < 10 {
-        return refusal as usize;
+    let refusal = (answer / 65536) as usize;
+    if refusal < REFUSALS {
+        return refusal;
     }
     0
 }
@@ -208,7 +216,7 @@ fn try_length(file: &[u8], program: &[u8], c: Case, lent: usize, tally: &mut Tal
     if is_right(file, program, lent, answer) {
         return true;
     }
-    add(tally, 10);
+    add(tally, REFUSALS);
     false
 }
 
@@ -262,7 +270,7 @@ fn first(buffer: &[u8], n: usize) -> &[u8] {
 
 // What cannot be read is a difference.
 fn unread(group: &[u8], index: usize, tally: &mut Tally) {
-    add(tally, 10);
+    add(tally, REFUSALS);
     print_place(group, index);
     text(b": the case cannot be read\n");
 }
@@ -317,7 +325,7 @@ fn replay_group(group: &[u8], tally: &mut Tally) {
 fn sum(tally: Tally) -> u64 {
     let mut total = 0;
     let mut i = 0;
-    while i < 10 {
+    while i < REFUSALS {
         total = wrapping_add_u64(total, tally[i]);
         i += 1;
     }
@@ -325,7 +333,7 @@ fn sum(tally: Tally) -> u64 {
 }
 
 fn main() {
-    let mut tally = [0u64; 11];
+    let mut tally = [0u64; 17];
     replay_group(b"conditions", &mut tally);
     replay_group(b"pairs", &mut tally);
     replay_group(b"ports", &mut tally);
@@ -339,6 +347,6 @@ fn main() {
     print_refusals(tally);
     number(sum(tally));
     text(b" compared, ");
-    number(tally[10]);
+    number(tally[REFUSALS]);
     text(b" differences\n");
 }

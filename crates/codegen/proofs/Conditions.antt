@@ -8,18 +8,18 @@ use native.Mathlib.Omega.{arith}
 use native.Mathlib.Nat.{mod-lt}
 use lib.Dec.{eqb, leb, lit<, lit≤}
 use lib.Bits.{bitAnd}
-use Rattle.error.specs.declared.Refusal.the-variants.{EtherOnRaw}
-use Rattle.error.specs.Answer.{Out, refused, done}
+use Rattle.error.specs.Answer.{Out}
 use Rattle.error.proofs.All.{All, all-bind, all-cond, all-map}
 use Rattle.bpf.specs.Bytes.{be, AreBytes}
 use Rattle.bpf.proofs.Bytes.{be-small}
 use Rattle.ast.specs.declared.LinkType.{LinkType}
 use Rattle.ast.specs.declared.LinkType.the-variants.{Ethernet, RawIp, LinuxSll}
+use Rattle.ast.specs.declared.Dir.{Dir}
 use Rattle.ast.specs.declared.Dir.the-variants.{SrcOrDst, Src, Dst, SrcAndDst}
 use Rattle.ast.specs.Tree.{Proto, Ip, Ip6, Arp, Rarp, Tcp, Udp, Icmp, Icmp6, Igmp, Sctp, Num, Ip6Proto}
 use Rattle.ast.specs.Tree.{Primitive, Protocol, Host4, Host6, Net, Net6, Port, PortRange, EtherHost, EtherProto, EtherMulticast, IpBroadcast, IpMulticast, Ip6Multicast, IpProtoChain, Ip6ProtoChain}
 use Rattle.ast.proofs.Proper.{ProperPrimitive}
-use Rattle.direct.specs.Reading.{networkStart, portSet, kind, ipv4, ipv6, readsProto, transport, portTest, bytesAre, readsPrimitive}
+use Rattle.direct.specs.Reading.{networkStart, sides, portSet, kind, ipv4, ipv6, readsProto, transport, portTest, bytesAre, fromStation, toStation, toMany, readsPrimitive}
 use Rattle.codegen.specs.declared.L4Set.{L4Set}
 use Rattle.codegen.specs.declared.Known.{Known}
 use Rattle.codegen.specs.declared.Facts.{Facts}
@@ -27,7 +27,7 @@ use Rattle.codegen.specs.Facts.{contains, holds, learnIp4, learnIp6}
 use Rattle.codegen.specs.Protocols.{l4setFor}
 use Rattle.codegen.specs.Block.{byte, half, word, jeq, jset}
 use Rattle.codegen.specs.Block.{Block}
-use Rattle.codegen.specs.Emit.{netOffset, etherProtoOffset, isRaw, Code, code, ethertypeAt, emitEthertype, guarded, emitL4, emitIp4L4, emitIp6L4, emitProto, portPrereqs, ported, ether, emitPrimitive}
+use Rattle.codegen.specs.Emit.{netOffset, etherProtoOffset, Code, ethertypeAt, emitEthertype, guarded, emitL4, emitIp4L4, emitIp6L4, emitProto, portPrereqs, ported, turned, checkMac, byLink, noAddress, sender, ether, emitPrimitive}
 use Rattle.codegen.proofs.Semantics.{indexed}
 use Rattle.codegen.proofs.Laws.{OfX, Never, Maybe, Decides, seq, equal, allow, learning, also, known, load, masked, lastly}
 use Rattle.codegen.proofs.Numbers.{low-one, top-bits}
@@ -52,6 +52,19 @@ unfolding kind
 kind-none Ethernet f v e = let z : _≡_ {A = ℕ} 0 1 = cc in absurd (omega arith)
 kind-none RawIp f v e = refl
 kind-none LinuxSll f v e = let z : _≡_ {A = ℕ} 0 1 = cc in absurd (omega arith)
+
+-- a test of the destination and then of the source
+sides-turned : (d : Dir) (s t : Bool) → sides (turned d) t s ≡ sides d s t
+sides-turned SrcOrDst s t = or-comm t s
+sides-turned Src s t = refl
+sides-turned Dst s t = refl
+sides-turned SrcAndDst s t = and-comm t s
+
+-- what holds of the block on Ethernet, and of that on LinuxSll where there is one, holds by link
+pub by-link : (q : LinkType → Block → Type 0) (L : LinkType) (b : Block) (cooked : Out Block) → q Ethernet b → All (q LinuxSll) cooked → All (q L) (byLink L b cooked)
+by-link q Ethernet b cooked h j = h
+by-link q RawIp b cooked h j = tt
+by-link q LinuxSll b cooked h j = j
 
 -- the generator's sets are those of the direct reading
 pub set-same : (p : Option Proto) → All (λ want. (q : ℕ) → portSet p q ≡ contains want q) (l4setFor p)
@@ -191,10 +204,19 @@ module _ (L : LinkType) (f : List ℕ) where
 
   -- ---- the conditions
 
-  ether-emits : (b : Block) (P : Bool) (g : Facts) → Raw L (g .ethertype) → ((G : ℕ → Type 0) → Decides f Maybe (OfX G) b P (OfX G))
-      → All (Emits Maybe g P) (ether L b g)
+  ether-emits : (b : Block) (cooked : Out Block) (P : LinkType → Bool) (g : Facts) → Raw L (g .ethertype)
+      → Decides f Maybe (OfX (Holds L f g)) b (P Ethernet) (OfX (Holds L f g))
+      → All (λ k. Decides f Maybe (OfX (Holds L f g)) k (P LinuxSll) (OfX (Holds L f g))) cooked → All (Emits Maybe g (P L)) (ether L b cooked g)
   unfolding ether
-  ether-emits b P g r h = all-cond _ (isRaw L) (refused EtherOnRaw) (done (code b g)) (λ e. tt) (λ e. record { decides = h (Holds L f g); raw = r })
+  ether-emits b cooked P g r h j =
+      all-bind _ _ (byLink L b cooked) _ (by-link (λ l k. Decides f Maybe (OfX (Holds L f g)) k (P l) (OfX (Holds L f g))) L b cooked h j) (λ k d. record { decides = d; raw = r })
+
+  sender-decides : AreBytes f → (d : Dir) (a : List ℕ) → ProperPrimitive (EtherHost d a) → (G : ℕ → Type 0)
+      → All (λ k. Decides f Maybe (OfX G) k (sides d (fromStation LinuxSll f a) (toStation LinuxSll f a)) (OfX G)) (sender d (checkMac a 6))
+  sender-decides z SrcOrDst a h G = tt
+  sender-decides z Src a h G = allow (seq (checked half 4 6) (mac-decides f z a 6 (h .0) (h .1)))
+  sender-decides z Dst a h G = tt
+  sender-decides z SrcAndDst a h G = tt
 
   pub condition-emits : AreBytes f → (p : Primitive) → ProperPrimitive p → (g : Facts) → Raw L (g .ethertype)
       → All (Emits Maybe g (readsPrimitive L f p)) (emitPrimitive L p g)
@@ -219,14 +241,12 @@ module _ (L : LinkType) (f : List ℕ) where
   condition-emits z (PortRange d p lo hi) h g r =
       ported-emits p _ (portTest L f d (λ v. leb lo v && leb v hi)) g r
       (λ j. two-blocks d (range-keeps lo hi (netOffset L)) (range-decides (netOffset L) _ lo hi (λ x q. source x (q .1))) (range-decides (netOffset L + 2) _ lo hi (λ x q. destination x (q .1))))
-  condition-emits z (EtherHost SrcOrDst a) h g r =
-      ether-emits _ _ g r (λ G. equal (or-comm (bytesAre f 0 a) (bytesAre f 6 a)) (two-blocks SrcOrDst (mac-keeps a 0) (mac-decides f z a 0 (h .0) (h .1)) (mac-decides f z a 6 (h .0) (h .1))))
-  condition-emits z (EtherHost Src a) h g r = ether-emits _ _ g r (λ G. allow (mac-decides f z a 6 (h .0) (h .1)))
-  condition-emits z (EtherHost Dst a) h g r = ether-emits _ _ g r (λ G. allow (mac-decides f z a 0 (h .0) (h .1)))
-  condition-emits z (EtherHost SrcAndDst a) h g r =
-      ether-emits _ _ g r (λ G. equal (and-comm (bytesAre f 0 a) (bytesAre f 6 a)) (two-blocks SrcAndDst (mac-keeps a 0) (mac-decides f z a 0 (h .0) (h .1)) (mac-decides f z a 6 (h .0) (h .1))))
+  condition-emits z (EtherHost d a) h g r =
+      ether-emits _ (sender d (checkMac a 6)) (λ l. sides d (fromStation l f a) (toStation l f a)) g r
+      (equal (sides-turned d (bytesAre f 6 a) (bytesAre f 0 a)) (two-blocks (turned d) (mac-keeps a 0) (mac-decides f z a 0 (h .0) (h .1)) (mac-decides f z a 6 (h .0) (h .1))))
+      (sender-decides z d a h (Holds L f g))
   condition-emits z (EtherProto v) h g r = loosely (kind L f v) g (emitEthertype L v g) (ethertype-emits v g r)
-  condition-emits z EtherMulticast h g r = ether-emits _ _ g r (λ G. equal (low-one (be 1 0 f)) (load byte 0 (lastly jset 1)))
+  condition-emits z EtherMulticast h g r = ether-emits _ noAddress (λ l. toMany l f) g r (equal (low-one (be 1 0 f)) (load byte 0 (lastly jset 1))) tt
   condition-emits z IpBroadcast h g r = rw (start L) (guarded-emits Maybe 0x0800 _ _ g r (λ G. allow (checked word (netOffset L + 16) 0xffff_ffff)))
   condition-emits z IpMulticast h g r =
       rw (start L)

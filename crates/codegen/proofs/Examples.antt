@@ -1,8 +1,8 @@
 -- Trees and what the published Rust answers to them, as one table with one theorem: every kind on every link, and the traps of the joins.
--- The expected answers are the oracle's (tools/oracle), not the definition's.
+-- The expected answers are the oracle's (tools/oracle), not the definition's; those of the requests are written from their text.
 use Prim.Native.Nat.{ℕ}
 use mathlib.Core.List.{List, [], _∷_, _++_}
-use mathlib.Core.Bool.{Bool, true, false, _&&_}
+use mathlib.Core.Bool.{Bool, true, false, not, _&&_}
 use mathlib.Core.Option.{Option, none, some}
 use lib.ListN.{length, getD, replicate}
 use lib.Dec.{eqb, T}
@@ -21,6 +21,7 @@ use Rattle.codegen.specs.Guards.{primitiveGuards, requiredGuards}
 use Rattle.codegen.specs.Block.{settle, turn, otherwise, far, writesX, assemble}
 use Rattle.codegen.specs.Emit as E
 use Rattle.codegen.specs.Compile.{finished, compile}
+use Rattle.codegen.specs.Cooked.{holdsEther, primitiveBefore, walk, walked, compileBefore}
 
 -- ---- instructions
 
@@ -222,7 +223,11 @@ conditions =
     ∷ makes Ethernet (ether Src) (ldw 6 ∷ jeq 0x0200_0000 0 3 ∷ ldh 10 ∷ jeq 170 0 1 ∷ [])
     ∷ makes Ethernet (ether Dst) (ldw 0 ∷ jeq 0x0200_0000 0 3 ∷ ldh 4 ∷ jeq 170 0 1 ∷ [])
     ∷ makes Ethernet (ether SrcAndDst) (ldw 0 ∷ jeq 0x0200_0000 0 7 ∷ ldh 4 ∷ jeq 170 0 5 ∷ ldw 6 ∷ jeq 0x0200_0000 0 3 ∷ ldh 10 ∷ jeq 170 0 1 ∷ [])
-    ∷ makes LinuxSll (ether SrcOrDst) (ldw 0 ∷ jeq 0x0200_0000 0 3 ∷ ldh 4 ∷ jeq 170 0 1 ∷ ja 4 ∷ ldw 6 ∷ jeq 0x0200_0000 0 3 ∷ ldh 10 ∷ jeq 170 0 1 ∷ [])
+    -- T-03: on LinuxSll the sender alone, with its address length first
+    ∷ makes LinuxSll (ether Src) (ldh 4 ∷ jeq 6 0 5 ∷ ldw 6 ∷ jeq 0x0200_0000 0 3 ∷ ldh 10 ∷ jeq 170 0 1 ∷ [])
+    ∷ refuses LinuxSll (ether SrcOrDst) 15
+    ∷ refuses LinuxSll (ether Dst) 15
+    ∷ refuses LinuxSll (ether SrcAndDst) 15
     ∷ refuses RawIp (ether Src) 7
     -- 18, ether protocol
     ∷ makes Ethernet (Leaf (EtherProto 0x88cc)) (ldh 12 ∷ jeq 0x88cc 0 1 ∷ [])
@@ -231,7 +236,7 @@ conditions =
     ∷ makes LinuxSll (Leaf (EtherProto 0x0806)) (ldh 14 ∷ jeq 0x0806 0 1 ∷ [])
     -- 19, ether multicast
     ∷ makes Ethernet multicast (ldb 0 ∷ jset 1 0 1 ∷ [])
-    ∷ makes LinuxSll multicast (ldb 0 ∷ jset 1 0 1 ∷ [])
+    ∷ refuses LinuxSll multicast 15
     ∷ refuses RawIp multicast 7
     -- 20, ip broadcast; 21, ip multicast; 22, ip6 multicast
     ∷ makes Ethernet (Leaf IpBroadcast) (ldh 12 ∷ jeq 0x0800 0 3 ∷ ldw 30 ∷ jeq 0xffff_ffff 0 1 ∷ [])
@@ -337,7 +342,18 @@ joins =
     ∷ makes Ethernet (proto (Ip6Proto 6) and port Dst (some Tcp) 80) (ldh 12 ∷ jeq 0x86dd 0 6 ∷ ldb 20 ∷ jeq 6 0 4 ∷ ldx 40 ∷ ldhx 16 ∷ jeq 80 0 1 ∷ [])
     ∷ makes Ethernet (proto Icmp6 and port Dst (some Tcp) 80) (ldh 12 ∷ jeq 0x86dd 0 8 ∷ ldb 20 ∷ jeq 58 0 6 ∷ ldb 20 ∷ jeq 6 0 4 ∷ ldx 40 ∷ ldhx 16 ∷ jeq 80 0 1 ∷ [])
     ∷ makes Ethernet (proto Udp and port Dst (some Tcp) 80) (ldh 12 ∷ jeq 0x0800 0 10 ∷ ldb 23 ∷ jeq 17 0 8 ∷ ldb 23 ∷ jeq 6 0 6 ∷ ldh 20 ∷ jset 0x1fff 4 0 ∷ ldxm 14 ∷ ldhx 16 ∷ jeq 80 0 1 ∷ [])
-    -- 5 to 8, the first that is met: an and emits its left first, an or what it hoists
+    -- T-03: a sender test learns nothing, forgets nothing and requires nothing
+    ∷ makes LinuxSll (ether Src and proto Ip) (ldh 4 ∷ jeq 6 0 7 ∷ ldw 6 ∷ jeq 0x0200_0000 0 5 ∷ ldh 10 ∷ jeq 170 0 3 ∷ ldh 14 ∷ jeq 0x0800 0 1 ∷ [])
+    ∷ makes LinuxSll (proto Ip and ether Src and proto Ip) (ldh 14 ∷ jeq 0x0800 0 7 ∷ ldh 4 ∷ jeq 6 0 5 ∷ ldw 6 ∷ jeq 0x0200_0000 0 3 ∷ ldh 10 ∷ jeq 170 0 1 ∷ [])
+    ∷ makes LinuxSll (ether Src or ether Src) (ldh 4 ∷ jeq 6 0 5 ∷ ldw 6 ∷ jeq 0x0200_0000 0 3 ∷ ldh 10 ∷ jeq 170 0 1 ∷ ja 6 ∷ ldh 4 ∷ jeq 6 0 5 ∷ ldw 6 ∷ jeq 0x0200_0000 0 3 ∷ ldh 10 ∷ jeq 170 0 1 ∷ [])
+    ∷ makes LinuxSll (Not (ether Src)) (ldh 4 ∷ jeq 6 0 5 ∷ ldw 6 ∷ jeq 0x0200_0000 0 3 ∷ ldh 10 ∷ jeq 170 0 1 ∷ ja 1 ∷ [])
+    -- 5 to 8 and 15, the first that is met: an and emits its left first, an or what it hoists
+    ∷ refuses LinuxSll (ether Dst and port Dst (some Icmp) 80) 15
+    ∷ refuses LinuxSll (port Dst (some Icmp) 80 and ether Dst) 6
+    ∷ refuses LinuxSll (multicast or port Dst (some Icmp) 80) 15
+    ∷ refuses LinuxSll (port Dst (some Icmp) 80 or multicast) 6
+    ∷ refuses LinuxSll (ether Src and multicast) 15
+    ∷ refuses LinuxSll (Not (ether SrcOrDst)) 15
     ∷ refuses RawIp (multicast and proto Ip6) 7
     ∷ refuses RawIp (proto Ip6 and multicast) 5
     ∷ refuses RawIp (port Dst (some Icmp) 80 and proto Icmp6) 6
@@ -373,8 +389,43 @@ jumps =
     -- an or resolves its left side's failures before its right side is emitted, an and leaves them open
     ∷ refuses Ethernet (joined And (host6 SrcAndDst) (replicate 19 (host6 SrcAndDst)) and port Dst (some Icmp) 80) 6
     ∷ refuses Ethernet (joined And (host6 SrcAndDst) (replicate 19 (host6 SrcAndDst)) or port Dst (some Icmp) 80) 8
+    -- T-03: the test of a sender's address length is one more that jumps
+    ∷ has LinuxSll (joined And (ether Src) (replicate 41 (ether Src) ++ (proto Ip ∷ Leaf IpBroadcast ∷ []))) 258 1 (jeq 6 0 255)
+    ∷ refuses LinuxSll (joined And (ether Src) (replicate 41 (ether Src) ++ (proto Ip ∷ Leaf IpMulticast ∷ []))) 8
+    -- 15 is met at its leaf: an earlier 8 wins, a later one loses
+    ∷ refuses LinuxSll (joined Or (ether Src) (replicate 40 (ether Src)) and ether Dst) 8
+    ∷ refuses LinuxSll (ether Dst and joined Or (ether Src) (replicate 40 (ether Src))) 15
+    ∷ refuses LinuxSll (joined And (ether Src) (replicate 43 (ether Src)) or multicast) 8
+    ∷ refuses LinuxSll (joined And (ether Src) (replicate 43 (ether Src)) and multicast) 15
+    ∷ refuses LinuxSll (Not (joined And (ether Src) (replicate 43 (ether Src))) and multicast) 8
     ∷ []
 
 examples-hold : T (test (conditions ++ (joins ++ jumps)))
 unfolding test conditions joins jumps same compile finished assemble settle turn otherwise far writesX primitiveGuards requiredGuards E.checkLoads E.checkBlocks E.checkIp6Addr E.checkNet6 E.checkRange E.checkMac E.l4SetCheck E.l4Check E.header4 E.header6 E.fork E.dualPath E.emitEthertype E.guarded E.emitL4 E.portPrereqs E.ported E.ether E.emitPrimitive E.orHoist E.emit be
 examples-hold = tt
+
+-- ---- before T-03
+
+testBefore : List Row → Bool
+testBefore [] = true
+testBefore (r ∷ rs) = meets (r .answer) (compileBefore (r .link) (r .tree)) && testBefore rs
+
+-- what the Rust makes of trees that T-03 changes
+rusts : List Row
+rusts =
+    makes LinuxSll (ether SrcOrDst) (ldw 0 ∷ jeq 0x0200_0000 0 3 ∷ ldh 4 ∷ jeq 170 0 1 ∷ ja 4 ∷ ldw 6 ∷ jeq 0x0200_0000 0 3 ∷ ldh 10 ∷ jeq 170 0 1 ∷ [])
+    ∷ makes LinuxSll (ether Src) (ldw 6 ∷ jeq 0x0200_0000 0 3 ∷ ldh 10 ∷ jeq 170 0 1 ∷ [])
+    ∷ makes LinuxSll multicast (ldb 0 ∷ jset 1 0 1 ∷ [])
+    ∷ []
+
+rusts-hold : T (testBefore rusts)
+unfolding testBefore rusts same walk walked primitiveBefore finished assemble settle turn otherwise far E.checkBlocks E.checkMac be
+rusts-hold = tt
+
+-- every kind that it leaves as it was
+kept : Expr
+kept = joined Or (proto Tcp) (Leaf (Host4 Src 1) ∷ host6 Src ∷ Leaf (Net Src 1 1) ∷ net6 Src 8 ∷ port Src none 80 ∷ Leaf (PortRange Src none 80 90) ∷ Leaf (EtherProto 0x0800) ∷ Leaf IpBroadcast ∷ Leaf IpMulticast ∷ Leaf Ip6Multicast ∷ Leaf (IpProtoChain 6) ∷ Leaf (Ip6ProtoChain 6) ∷ [])
+
+kept-other : T (not (holdsEther kept))
+unfolding kept holdsEther
+kept-other = tt

@@ -15,4 +15,5 @@ pub mod Nets6
 pub mod Shape
 pub mod Sound
 pub mod Refusals
+pub mod Cooked
 pub mod Examples

@@ -1,14 +1,15 @@
--- The refusals of a tree are 5 to 8.
-use Prim.Native.Nat.{ℕ, _≤_}
-use mathlib.Core.List.{[]}
+-- The refusals of a tree are 5 to 8 and 15.
+use Prim.Native.Nat.{ℕ}
+use mathlib.Core.List.{List, [], _∷_}
 use mathlib.Core.Bool.{cond}
 use mathlib.Core.Option.{Option, none, some}
-use native.Mathlib.Omega.{arith}
 use lib.Dec.{eqb}
 use Rattle.error.specs.declared.Refusal.{Refusal}
-use Rattle.error.specs.Answer.{Out, numberOf}
+use Rattle.error.specs.Answer.{Out, Numbered}
 use Rattle.error.proofs.All.{Turned, turned-bind, turned-cond}
 use Rattle.ast.specs.declared.LinkType.{LinkType}
+use Rattle.ast.specs.declared.LinkType.the-variants.{Ethernet, RawIp, LinuxSll}
+use Rattle.ast.specs.declared.Dir.{Dir}
 use Rattle.ast.specs.declared.Dir.the-variants.{SrcOrDst, Src, Dst, SrcAndDst}
 use Rattle.ast.specs.Tree.{Proto, Ip, Ip6, Arp, Rarp, Tcp, Udp, Icmp, Icmp6, Igmp, Sctp, Num, Ip6Proto}
 use Rattle.ast.specs.Tree.{Primitive, Protocol, Host4, Host6, Net, Net6, Port, PortRange, EtherHost, EtherProto, EtherMulticast, IpBroadcast, IpMulticast, Ip6Multicast, IpProtoChain, Ip6ProtoChain}
@@ -21,35 +22,49 @@ use Rattle.codegen.specs.declared.GuardSet.{GuardSet}
 use Rattle.codegen.specs.Facts.{readySet, holds}
 use Rattle.codegen.specs.Protocols.{rowOf, smallOf, known, l4setFor}
 use Rattle.codegen.specs.Block.{Block, far, resolved}
-use Rattle.codegen.specs.Emit.{etherProtoOffset, isRaw, Code, code, ethertypeAt, emitEthertype, guarded, emitL4, emitIp4L4, emitIp6L4, emitRow, ported, ether, emitPrimitive, hoistKnown, hoistPorts, orHoist, emit}
+use Rattle.codegen.specs.Emit.{etherProtoOffset, isRaw, Code, code, ethertypeAt, emitEthertype, guarded, emitL4, emitIp4L4, emitIp6L4, emitRow, ported, byLink, noAddress, sender, ether, emitPrimitive, hoistKnown, hoistPorts, orHoist, emit}
 use Rattle.codegen.specs.Compile.{entryFacts, compile}
 
+abbrev pub late : List ℕ
+late = 5 ∷ 6 ∷ 7 ∷ 8 ∷ 15 ∷ []
+
 abbrev pub Late : Refusal → Type 0
-Late r = (5 ≤ numberOf r) × (numberOf r ≤ 8)
+Late = Numbered late
 
 resolved-turned : (b : Block) → Turned Late (resolved b)
-resolved-turned b = turned-cond Late (far b) _ _ (omega arith) tt
+resolved-turned b = turned-cond Late (far b) _ _ tt tt
 
 -- ---- conditions
 
 ethertype-turned : (o : Option ℕ) (v : ℕ) (g : Facts) → Turned Late (ethertypeAt o v g)
-ethertype-turned none v g = turned-cond Late (eqb v 0x0800) _ _ tt (omega arith)
+ethertype-turned none v g = turned-cond Late (eqb v 0x0800) _ _ tt tt
 ethertype-turned (some off) v g = turned-cond Late (holds (g .ethertype) v) _ _ tt tt
 
 set-turned : (p : Option Proto) → Turned Late (l4setFor p)
 set-turned none = tt
-set-turned (some Ip) = omega arith
-set-turned (some Ip6) = omega arith
-set-turned (some Arp) = omega arith
-set-turned (some Rarp) = omega arith
+set-turned (some Ip) = tt
+set-turned (some Ip6) = tt
+set-turned (some Arp) = tt
+set-turned (some Rarp) = tt
 set-turned (some Tcp) = tt
 set-turned (some Udp) = tt
-set-turned (some Icmp) = omega arith
-set-turned (some Icmp6) = omega arith
-set-turned (some Igmp) = omega arith
+set-turned (some Icmp) = tt
+set-turned (some Icmp6) = tt
+set-turned (some Igmp) = tt
 set-turned (some Sctp) = tt
-set-turned (some (Num n)) = omega arith
-set-turned (some (Ip6Proto n)) = omega arith
+set-turned (some (Num n)) = tt
+set-turned (some (Ip6Proto n)) = tt
+
+link-turned : (L : LinkType) (b : Block) (cooked : Out Block) → Turned Late cooked → Turned Late (byLink L b cooked)
+link-turned Ethernet b cooked h = tt
+link-turned RawIp b cooked h = tt
+link-turned LinuxSll b cooked h = h
+
+sender-turned : (d : Dir) (b : Block) → Turned Late (sender d b)
+sender-turned SrcOrDst b = tt
+sender-turned Src b = tt
+sender-turned Dst b = tt
+sender-turned SrcAndDst b = tt
 
 module _ (L : LinkType) where
   kind-turned : (v : ℕ) (g : Facts) → Turned Late (emitEthertype L v g)
@@ -80,9 +95,9 @@ module _ (L : LinkType) where
   unfolding ported
   ported-turned p b g = turned-bind Late (l4setFor p) _ (set-turned p) (λ want. tt)
 
-  ether-turned : (b : Block) (g : Facts) → Turned Late (ether L b g)
+  ether-turned : (b : Block) (cooked : Out Block) (g : Facts) → Turned Late cooked → Turned Late (ether L b cooked g)
   unfolding ether
-  ether-turned b g = turned-cond Late (isRaw L) _ _ (omega arith) tt
+  ether-turned b cooked g h = turned-bind Late (byLink L b cooked) _ (link-turned L b cooked h) (λ k. tt)
 
   condition-turned : (p : Primitive) (g : Facts) → Turned Late (emitPrimitive L p g)
   unfolding emitPrimitive
@@ -93,12 +108,9 @@ module _ (L : LinkType) where
   condition-turned (Net6 d p a) g = guarded-turned _ _ g
   condition-turned (Port d p k) g = ported-turned p _ g
   condition-turned (PortRange d p lo hi) g = ported-turned p _ g
-  condition-turned (EtherHost SrcOrDst a) g = ether-turned _ g
-  condition-turned (EtherHost Src a) g = ether-turned _ g
-  condition-turned (EtherHost Dst a) g = ether-turned _ g
-  condition-turned (EtherHost SrcAndDst a) g = ether-turned _ g
+  condition-turned (EtherHost d a) g = ether-turned _ (sender d _) g (sender-turned d _)
   condition-turned (EtherProto v) g = kind-turned v g
-  condition-turned EtherMulticast g = ether-turned _ g
+  condition-turned EtherMulticast g = ether-turned _ noAddress g tt
   condition-turned IpBroadcast g = guarded-turned _ _ g
   condition-turned IpMulticast g = guarded-turned _ _ g
   condition-turned Ip6Multicast g = guarded-turned _ _ g
@@ -136,7 +148,7 @@ module _ (L : LinkType) where
       (λ b. turned-bind Late (resolved _) _ (resolved-turned _) (λ b′. turned-bind Late (emit L r _) _ (tree-turned r _) (λ c. tt))))
   tree-turned (Not t) g = turned-bind Late (emit L t g) _ (tree-turned t g) (λ b. turned-bind Late (resolved _) _ (resolved-turned _) (λ b′. tt))
 
-pub compile-turned : (L : LinkType) (t : Expr) → Turned (λ r. (5 ≤ numberOf r) × (numberOf r ≤ 8)) (compile L t)
+pub compile-turned : (L : LinkType) (t : Expr) → Turned Late (compile L t)
 unfolding compile
 compile-turned L t =
     turned-bind Late (emit L t (entryFacts L)) _ (tree-turned L t (entryFacts L)) (λ c. turned-bind Late (resolved _) _ (resolved-turned _) (λ b. tt))

@@ -33,10 +33,11 @@ use Rattle.codegen.specs.Protocols.{rowOf, smallOf, known, l4setFor}
 use Rattle.codegen.specs.Guards.{guards, setOf, primitiveGuards, requiredGuards}
 use Rattle.codegen.specs.Block.{half, jeq, Side, success, failure, leave, jt, test}
 use Rattle.codegen.specs.Block.{Block, settle, turn, otherwise}
-use Rattle.codegen.specs.Emit.{netOffset, etherProtoOffset, isRaw, Code, code, need, check, checkLoads, checkBlocks, checkIp6Addr, mask16, checkNet6, checkRange, checkMac, l4SetCheck, l4Check, header4, header6, fork, dualPath, Prologue, version, dual, emitEthertype, guarded, emitL4, emitIp4L4, emitIp6L4, emitRow, portPrereqs, ported, ether, emitPrimitive, hoistKnown, hoistPorts, orHoist, emit, restoredAfter}
+use Rattle.codegen.specs.Emit.{netOffset, etherProtoOffset, isRaw, Code, code, need, check, checkLoads, checkBlocks, checkIp6Addr, mask16, checkNet6, checkRange, checkMac, l4SetCheck, l4Check, header4, header6, fork, dualPath, Prologue, version, dual, emitEthertype, guarded, emitL4, emitIp4L4, emitIp6L4, emitRow, portPrereqs, ported, turned, byLink, noAddress, sender, ether, emitPrimitive, hoistKnown, hoistPorts, orHoist, emit, restoredAfter}
 use Rattle.codegen.proofs.Nets6.{net-none}
 use Rattle.codegen.proofs.Semantics.{length-settle}
 use Rattle.codegen.proofs.KnownLaws.{Says, SaysPorts, says-ready, GuardsSay, union-says, intersect-left}
+use Rattle.codegen.proofs.Conditions.{by-link}
 use Rattle.codegen.proofs.Joins.{resolved-then}
 use Rattle.codegen.proofs.Near.{Made, made-append, made-settle, made-turn, length-turn}
 
@@ -242,9 +243,17 @@ module _ (L : LinkType) where
   unfolding ported
   ported-shape p g h l = all-bind SmallSet (Fits L 37) (l4setFor p) _ (set-small p) (λ s i. more 37 (omega arith) (joined (prereqs-shape s g i) h))
 
-  ether-shape : (g : Facts) {n : ℕ} {b : Block} → Shaped (netOffset L + 64) n b → n ≤ 37 → All (Fits L 37) (ether L b g)
+  ether-shape : (g : Facts) {n : ℕ} {b : Block} (cooked : Out Block) → Shaped (netOffset L + 64) n b → n ≤ 37
+      → All (Shaped (netOffset L + 64) 37) cooked → All (Fits L 37) (ether L b cooked g)
   unfolding ether
-  ether-shape g h l = either (All (Fits L 37)) (isRaw L) tt (more 37 l h)
+  ether-shape g {b = b} cooked h l j =
+      all-bind (Shaped (netOffset L + 64) 37) _ (byLink L b cooked) _ (by-link (λ l. Shaped (netOffset L + 64) 37) L b cooked (more 37 l h) j) (λ k s. s)
+
+  sender-shape : (d : Dir) (a : List ℕ) → Each Byte a → All (Shaped (netOffset L + 64) 37) (sender d (checkMac a 6))
+  sender-shape SrcOrDst a h = tt
+  sender-shape Src a h = more 37 (omega arith) (joined {m = 2} {b = check half 4 6} (omega arith) (mac-shape a 6 (omega arith) h))
+  sender-shape Dst a h = tt
+  sender-shape SrcAndDst a h = tt
 
   -- ---- primitives
 
@@ -268,12 +277,10 @@ module _ (L : LinkType) where
       guarded-shape 0x86dd g (blocks-shape d (net6-shape p (netOffset L + 8) a (omega arith) (h .1)) (net6-shape p (netOffset L + 24) a (omega arith) (h .1))) (omega arith)
   primitive-shape (Port d p k) g h = ported-shape p g (loads-shape d k (omega arith) (omega arith) (omega arith)) (omega arith)
   primitive-shape (PortRange d p lo hi) g h = ported-shape p g (blocks-shape {n = 3} d (omega arith) (omega arith)) (omega arith)
-  primitive-shape (EtherHost SrcOrDst a) g h = ether-shape g (blocks-shape SrcOrDst (mac-shape a 0 (omega arith) (h .1)) (mac-shape a 6 (omega arith) (h .1))) (omega arith)
-  primitive-shape (EtherHost Src a) g h = ether-shape g (mac-shape a 6 (omega arith) (h .1)) (omega arith)
-  primitive-shape (EtherHost Dst a) g h = ether-shape g (mac-shape a 0 (omega arith) (h .1)) (omega arith)
-  primitive-shape (EtherHost SrcAndDst a) g h = ether-shape g (blocks-shape SrcAndDst (mac-shape a 0 (omega arith) (h .1)) (mac-shape a 6 (omega arith) (h .1))) (omega arith)
+  primitive-shape (EtherHost d a) g h =
+      ether-shape g (sender d (checkMac a 6)) (blocks-shape (turned d) (mac-shape a 0 (omega arith) (h .1)) (mac-shape a 6 (omega arith) (h .1))) (omega arith) (sender-shape d a (h .1))
   primitive-shape (EtherProto v) g h = row-shape v Unknown Unknown g (omega arith)
-  primitive-shape EtherMulticast g h = ether-shape g {n = 2} (omega arith) (omega arith)
+  primitive-shape EtherMulticast g h = ether-shape g {n = 2} noAddress (omega arith) (omega arith) tt
   primitive-shape IpBroadcast g h = guarded-shape 0x0800 g {n = 2} (omega arith) (omega arith)
   primitive-shape IpMulticast g h = guarded-shape 0x0800 g {n = 3} (omega arith) (omega arith)
   primitive-shape Ip6Multicast g h = guarded-shape 0x86dd g {n = 2} (omega arith) (omega arith)

@@ -7,7 +7,7 @@ use mathlib.Core.Option.{Option, none, some}
 use lib.ListN.{length}
 use lib.Dec.{eqb, leb}
 use lib.Bits.{bitAnd}
-use Rattle.error.specs.declared.Refusal.the-variants.{KindOnRaw, EtherOnRaw}
+use Rattle.error.specs.declared.Refusal.the-variants.{KindOnRaw, EtherOnRaw, CookedAddress}
 use Rattle.error.specs.Answer.{Out, refused, done, _>>=_}
 use Rattle.bpf.specs.Bytes.{be}
 use Rattle.ast.specs.declared.LinkType.{LinkType}
@@ -107,6 +107,13 @@ checkRange lo hi at = op (ldhInd at) ∷ test jge lo jf (leave failure) ∷ test
 unfoldable pub checkMac : List ℕ → ℕ → Block
 checkMac a at = check word at (be 4 0 a) ++ check half (at + 4) (be 2 4 a)
 
+-- source and destination exchanged
+abbrev pub turned : Dir → Dir
+turned SrcOrDst = SrcOrDst
+turned Src = Dst
+turned Dst = Src
+turned SrcAndDst = SrcAndDst
+
 -- ---- the port prologue: `emit_port_prereqs_set`
 
 -- `emit_l4_set_check`: A is a protocol of the set
@@ -170,6 +177,30 @@ abbrev pub ethertypeAt : Option ℕ → ℕ → Facts → Out Code
 ethertypeAt none et g = cond (eqb et 0x0800) (done (code [] g)) (refused KindOnRaw)
 ethertypeAt (some off) et g = cond (holds (g .ethertype) et) (done (code [] g)) (done (code (check half off et) (learnEthertype g et)))
 
+-- a test of ether addresses by link: the block on Ethernet, the answer on LinuxSll; number 7, "RawIp with kind 17 or 19"
+abbrev pub byLink : LinkType → Block → Out Block → Out Block
+byLink Ethernet b cooked = done b
+byLink RawIp b cooked = refused EtherOnRaw
+byLink LinuxSll b cooked = cooked
+
+-- T-03, "Cooked captures have no destination address": number 15
+abbrev pub noAddress : Out Block
+noAddress = refused CookedAddress
+
+-- T-03: "On LinuxSll, kind 17 is now accepted only with direction 1"; "The sender test also wants the 16-bit address length at byte 4 to
+-- be 6; that test comes first."
+abbrev pub sender : Dir → Block → Out Block
+sender SrcOrDst source = noAddress
+sender Src source = done (check half 4 6 ++ source)
+sender Dst source = noAddress
+sender SrcAndDst source = noAddress
+
+-- a block that learns no fact
+abbrev pub unlearned : Out Block → Facts → Out Code
+unlearned o g = do
+  b ← o
+  done (code b g)
+
 module _ (L : LinkType) where
   unfoldable pub emitEthertype : ℕ → Facts → Out Code
   emitEthertype et g = ethertypeAt (etherProtoOffset L) et g
@@ -214,9 +245,8 @@ module _ (L : LinkType) where
     want ← l4setFor p
     let c = portPrereqs want g in done (code (c .block ++ b) (c .facts))
 
-  -- number 7, "RawIp with kind 17 or 19"
-  unfoldable pub ether : Block → Facts → Out Code
-  ether b g = cond (isRaw L) (refused EtherOnRaw) (done (code b g))
+  unfoldable pub ether : Block → Out Block → Facts → Out Code
+  ether b cooked = unlearned (byLink L b cooked)
 
   abbrev n : ℕ
   n = netOffset L
@@ -232,12 +262,10 @@ module _ (L : LinkType) where
   emitPrimitive (Port d p k) = ported p (checkLoads d k (op (ldhInd n) ∷ []) (op (ldhInd (n + 2)) ∷ []))
   emitPrimitive (PortRange d p lo hi) = ported p (checkBlocks d (checkRange lo hi n) (checkRange lo hi (n + 2)))
   -- the destination is tested first
-  emitPrimitive (EtherHost SrcOrDst a) = ether (checkBlocks SrcOrDst (checkMac a 0) (checkMac a 6))
-  emitPrimitive (EtherHost Src a) = ether (checkMac a 6)
-  emitPrimitive (EtherHost Dst a) = ether (checkMac a 0)
-  emitPrimitive (EtherHost SrcAndDst a) = ether (checkBlocks SrcAndDst (checkMac a 0) (checkMac a 6))
+  emitPrimitive (EtherHost d a) = ether (checkBlocks (turned d) (checkMac a 0) (checkMac a 6)) (sender d (checkMac a 6))
   emitPrimitive (EtherProto v) = emitEthertype v
-  emitPrimitive EtherMulticast = ether (op (ldAbs byte 0) ∷ test jset 0x01 jf (leave failure) ∷ [])
+  -- T-03: "and kind 19 is turned down"
+  emitPrimitive EtherMulticast = ether (op (ldAbs byte 0) ∷ test jset 0x01 jf (leave failure) ∷ []) noAddress
   emitPrimitive IpBroadcast = guarded 0x0800 (check word (n + 16) 0xffff_ffff)
   emitPrimitive IpMulticast = guarded 0x0800 (op (ldAbs word (n + 16)) ∷ op (andK 0xf000_0000) ∷ need 0xe000_0000 ∷ [])
   emitPrimitive Ip6Multicast = guarded 0x86dd (check byte (n + 24) 0xff)

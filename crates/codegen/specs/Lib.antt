@@ -5,3 +5,4 @@ pub mod Block
 pub mod Emit
 pub mod Nets6
 pub mod Compile
+pub mod Cooked

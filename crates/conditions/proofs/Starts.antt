@@ -6,13 +6,13 @@ use mathlib.Core.Bool.{Bool, true, false}
 use mathlib.Core.Option.{Option, none, some}
 use borrow.Author.Tests.{eq-eqb, ne-eqb}
 use Rattle.error.specs.declared.Refusal.{Refusal}
-use Rattle.error.specs.declared.Refusal.the-variants.{KindOnRaw, EtherOnRaw}
+use Rattle.error.specs.declared.Refusal.the-variants.{KindOnRaw}
 use Rattle.ast.specs.declared.LinkType.{LinkType}
 use Rattle.codegen.specs.declared.Known.{Known}
 use Rattle.codegen.specs.declared.Facts.{Facts}
 use Rattle.codegen.specs.Facts.{holds, learnEthertype}
 use Rattle.codegen.specs.Block.{Block, byte, half}
-use Rattle.codegen.specs.Emit.{netOffset, etherProtoOffset, isRaw, check, emitEthertype, guarded, emitL4, ether}
+use Rattle.codegen.specs.Emit.{netOffset, etherProtoOffset, check, emitEthertype, guarded, emitL4}
 use Rattle.emit.specs.declared.Patches.{Patches}
 use Rattle.emit.specs.declared.Emitted.{Emitted}
 use Rattle.emit.specs.declared.Emission.{Emission}
@@ -96,14 +96,3 @@ module _ (L : LinkType) (v : Version) (p : ℕ) (g : Facts) {et : ℕ} (ver : et
     unfolding emitL4
     l4-tested q at place c l =
         record { reply = λ Y. rw (went Y d .eq, told Y q, ← at, ← place) (answer (then (went Y d .made .grew) (c .grew Y)) (l ∙ ap (λ (x : Facts). learnProto v x p) (went Y d .made .facts))) }
-
--- ---- ether conditions
-
-module _ (L : LinkType) (g : Facts) (B : Block) {b : Bool} (raw : b ≡ isRaw L) {I Y N I′ Y′ N′ : List ℕ} {s : Patches} where
-  pub ether-refused : b ≡ true → Reply (ether L B g) I Y N s I′ Y′ N′ (Refused EtherOnRaw)
-  unfolding ether
-  ether-refused e = rw (sym raw ∙ e) (turned-down I Y N I′ Y′ N′ s)
-
-  pub ether-grew : {t : Patches} → b ≡ false → Grew B I Y N s I′ Y′ N′ t → Reply (ether L B g) I Y N s I′ Y′ N′ (Done (record { patches = t; facts = g }))
-  unfolding ether
-  ether-grew e h = rw (sym raw ∙ e) (answer h refl)

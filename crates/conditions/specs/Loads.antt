@@ -5,8 +5,6 @@ use mathlib.Core.List.{List, [], _∷_, _++_}
 use mathlib.Core.Option.{Option, none, some}
 use Rattle.error.specs.Answer.{Out}
 use Rattle.ast.specs.declared.LinkType.{LinkType}
-use Rattle.ast.specs.declared.Dir.{Dir}
-use Rattle.ast.specs.declared.Dir.the-variants.{SrcOrDst, Src, Dst, SrcAndDst}
 use Rattle.codegen.specs.declared.L4Set.{L4Set}
 use Rattle.codegen.specs.declared.Known.{Known}
 use Rattle.codegen.specs.declared.Facts.{Facts}
@@ -50,13 +48,6 @@ tested (Mac four two) at = macBlock four two at
 abbrev pub most : Shape → ℕ
 most (Range lo hi) = 3
 most (Mac four two) = 4
-
--- source and destination exchanged
-abbrev pub turned : Dir → Dir
-turned SrcOrDst = SrcOrDst
-turned Src = Dst
-turned Dst = Src
-turned SrcAndDst = SrcAndDst
 
 -- the ethertype test at a place
 pub record EthertypeAt (off et : ℕ) (g : Facts) (I N : List ℕ) (s : Patches) (I′ N′ : List ℕ) (e : Emitted) : Type 0 where

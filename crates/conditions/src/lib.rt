@@ -1,4 +1,4 @@
-// The conditions but ports: codegen.rs `emit_ethertype` to `emit_ip6_multicast`.
+// The conditions but ports and ether addresses: codegen.rs `emit_ethertype` to `emit_ip6_multicast`.
 use ast::Dir;
 use ast::LinkType;
 use codegen::Facts;
@@ -22,7 +22,7 @@ ghost use mathlib.Core.Path.{_≡_};
 ghost use mathlib.Core.List.{[], _∷_, _++_};
 ghost use Prim.Native.Nat.{_+_, _≤_, _<_};
 ghost use Rattle.codegen.specs.Block.{half, word};
-ghost use Rattle.ast.specs.Tree.{EtherMulticast, IpBroadcast, IpMulticast, Ip6Multicast};
+ghost use Rattle.ast.specs.Tree.{IpBroadcast, IpMulticast, Ip6Multicast};
 ghost use Rattle.codegen.specs.Emit as E;
 ghost use Rattle.codegen.specs.Nets6 as N;
 ghost use Rattle.emit.specs.Grown.{Room, Space, Place, Put, PutFailure, Grew, Reply, ReplyFailure};
@@ -359,7 +359,7 @@ fn check_range(
 }
 
 // Four bytes and then two.
-fn check_mac(
+pub fn check_mac(
     insns: &mut [u64],
     failure: &mut [u16],
     p: Patches,
@@ -493,66 +493,6 @@ pub fn emit_net6(
             })
         }
     }
-}
-
-// The destination is tested first.
-pub fn emit_ether_host(
-    link: LinkType,
-    insns: &mut [u64],
-    success: &mut [u16],
-    failure: &mut [u16],
-    p: Patches,
-    facts: Facts,
-    dir: Dir,
-    four: u32,
-    two: u32,
-) -> Emission
-    requires { ⌜ Room 9 (now insns) (now success) (now failure) p ⌝ }
-    ensures { λ r. ⌜ Reply (E.ether link (E.checkBlocks (L.turned dir) (L.macBlock four two 0) (L.macBlock four two 6)) facts) (now (insns .entry)) (now (success .entry)) (now (failure .entry)) p (now (insns .exit)) (now (success .exit)) (now (failure .exit)) r ⌝ }
-{
-    if is_raw(link) {
-        return Emission::Refused(Refusal::EtherOnRaw);
-    }
-    let shape = Shape::Mac(four, two);
-    let turned = turned(dir);
-    let t = check_sides(insns, success, failure, p, turned, shape, 0, 6);
-    Emission::Done(Emitted {
-        patches: t,
-        facts: facts,
-    })
-}
-
-// Source and destination exchanged.
-fn turned(dir: Dir) -> Dir
-    ensures { λ r. ⌜ r ≡ L.turned dir ⌝ }
-{
-    match dir {
-        Dir::Src => Dir::Dst,
-        Dir::Dst => Dir::Src,
-        Dir::SrcAndDst => Dir::SrcAndDst,
-        Dir::SrcOrDst => Dir::SrcOrDst,
-    }
-}
-
-pub fn emit_ether_multicast(
-    link: LinkType,
-    insns: &mut [u64],
-    failure: &mut [u16],
-    p: Patches,
-    facts: Facts,
-) -> Emission
-    requires { ⌜ Space 2 (now insns) (now failure) p (p .failure) ⌝ }
-    ensures { λ r. ⌜ ReplyFailure (E.emitPrimitive link EtherMulticast facts) (now (insns .entry)) (now (failure .entry)) p (now (insns .exit)) (now (failure .exit)) r ⌝ }
-{
-    if is_raw(link) {
-        return Emission::Refused(Refusal::EtherOnRaw);
-    }
-    let q = push(insns, p, 0x30, 0);
-    let t = test_failure(insns, failure, q, 0x45, 1, 2);
-    Emission::Done(Emitted {
-        patches: t,
-        facts: facts,
-    })
 }
 
 pub fn emit_ip_broadcast(

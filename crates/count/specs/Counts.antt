@@ -105,7 +105,7 @@ pub record Linked (c : Calls) (lent : ℕ) (P : List ℕ) (link : LinkType) (s :
 -- ---- of a tree file T, a buffer of so many bytes and a capture s
 
 pub record Counts (T : List ℕ) (c : Calls) (lent : ℕ) (s : List ℕ) : Type 0 where
-  -- "after the tree's own": its number, no frame, and 1 to 9 zero the buffer
+  -- "after the tree's own": its number, no frame, and the buffer zero
   pub own : (r : Refusal) → Refuses (c .base) lent r → (c .answer lent s ≡ Refused r none) × (c .buffer lent s ≡ replicate lent 0)
   -- "12 to 14 leave the built program in its buffer": it is what `build` leaves, whatever the capture
   pub leaves : c .buffer lent s ≡ c .base .buffer lent

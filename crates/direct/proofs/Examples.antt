@@ -146,8 +146,9 @@ udp6 s d = ip6 17 a6 b6 (ports s d)
 abbrev stations : ℕ → ℕ → List ℕ
 stations s d = eth d s 0x0800 (proto4 6)
 
-abbrev cookedStations : ℕ → ℕ → List ℕ
-cookedStations s d = sll d s 0 0x0800 (proto4 6)
+-- a cooked capture of a sender, with this address length
+abbrev sent : ℕ → ℕ → List ℕ
+sent long s = sll (0x0000_0001_0000 + long) s 0 0x0800 (proto4 6)
 
 abbrev whole : List ℕ → List ℕ
 whole f = f
@@ -178,7 +179,6 @@ directions =
     ++ sided Ethernet (λ d. PortRange d (some Tcp) 100 200) (ether 0x86dd) (ether 0x0806) tcp6 150 201 99
     ++ sided LinuxSll (λ d. PortRange d none 100 200) (cooked 0x86dd) (cooked 0x0800) udp6 101 0 65535
     ++ sided Ethernet (λ d. EtherHost d (out 6 macA)) whole shifted stations macA macB 0x0200_5e10_010a
-    ++ sided LinuxSll (λ d. EtherHost d (out 6 macA)) whole shifted cookedStations macA macB 0x0300_5e10_000a
     ++ sided RawIp (λ d. EtherHost d (out 6 macA)) whole shifted stations macA macB 0x0200_5e11_000a
 
 -- IPv6 addresses are never there on RawIp
@@ -458,16 +458,20 @@ others =
     -- ether multicast: the first byte odd
     ∷ row Ethernet EtherMulticast (map station (0x0100_5e00_0001 ∷ 0x3333_0000_0001 ∷ 0xffff_ffff_ffff ∷ [])) 0b111
     ∷ row Ethernet EtherMulticast (map station (0x0000_0000_0001 ∷ 0x0201_0101_0101 ∷ 0xfeff_ffff_ffff ∷ []) ++ (eth macB 0x0100_5e00_0001 0x0800 [] ∷ [])) 0
-    ∷ row LinuxSll EtherMulticast (map (λ d. sll d macA 0 0x0800 []) (0x0100_0001_0006 ∷ 0x0001_0001_0006 ∷ 0x0000_0001_0006 ∷ [])) 0b100
+    -- T-03: a cooked capture has no destination, whatever its packet type is and its sender
+    ∷ row LinuxSll EtherMulticast (map (λ d. sll d 0x0100_5e00_0001 0 0x0800 []) (0x0100_0001_0006 ∷ 0x0001_0001_0006 ∷ 0x0002_0001_0006 ∷ [])) 0
     ∷ row RawIp EtherMulticast (map (λ ihl. ip4 ihl 0 6 a4 b4 []) (5 ∷ 6 ∷ [])) 0b10
     -- ether hosts: each of the six bytes counts, and no other
     ∷ row Ethernet (EtherHost Dst (out 6 macB)) (map changed (0 ∷ 1 ∷ 2 ∷ 3 ∷ 4 ∷ 5 ∷ [])) 0
     ∷ row Ethernet (EtherHost Dst (out 6 macB)) (map changed (6 ∷ 7 ∷ 8 ∷ 9 ∷ 10 ∷ 11 ∷ 12 ∷ [])) 0b111_1111
     ∷ row Ethernet (EtherHost Src (out 6 macA)) (map changed (6 ∷ 7 ∷ 8 ∷ 9 ∷ 10 ∷ 11 ∷ [])) 0
     ∷ row Ethernet (EtherHost Src (out 6 macA)) (map changed (0 ∷ 1 ∷ 2 ∷ 3 ∷ 4 ∷ 5 ∷ 12 ∷ [])) 0b111_1111
-    -- "on LinuxSll too": the cooked header's first six bytes stand for a destination
-    ∷ row LinuxSll (EtherHost Src (out 6 macA)) (cooked 0x0800 [] ∷ map (λ i. set (cooked 0x0800 []) i 1) (6 ∷ 11 ∷ 12 ∷ [])) 0b1001
-    ∷ row LinuxSll (EtherHost Dst (out 6 0x0000_0001_0006)) (cooked 0x0800 [] ∷ map (λ i. set (cooked 0x0800 []) i 4) (0 ∷ 5 ∷ 6 ∷ [])) 0b1001
+    -- T-03: of a cooked capture the sender, whose address has the length 6
+    ∷ row LinuxSll (EtherHost Src (out 6 macA)) (cooked 0x0800 [] ∷ map (λ i. set (cooked 0x0800 []) i 1) (0 ∷ 2 ∷ 6 ∷ 11 ∷ 12 ∷ [])) 0b111001
+    ∷ row LinuxSll (EtherHost Src (out 6 macA)) (sent 6 macA ∷ sent 6 macB ∷ sent 5 macA ∷ sent 7 macA ∷ sent 0x0106 macA ∷ sent 0x0600 macA ∷ sent 0 macA ∷ []) 0b1000000
+    ∷ row LinuxSll (EtherHost Dst (out 6 0x0000_0001_0006)) (cooked 0x0800 [] ∷ sent 6 macA ∷ []) 0
+    ∷ row LinuxSll (EtherHost SrcAndDst (out 6 macA)) (sll macA macA 0 0x0800 [] ∷ sent 6 macA ∷ []) 0
+    ∷ row LinuxSll (EtherHost SrcOrDst (out 6 macA)) (sent 6 macA ∷ sent 8 macA ∷ sll macA macB 0 0x0800 [] ∷ []) 0b100
     ∷ []
 
 casts-hold : T (test (casts Ethernet ether) && (test (casts LinuxSll cooked) && test others))
@@ -493,7 +497,8 @@ shorts =
     ∷ row RawIp (Host4 SrcAndDst 0) ([] ∷ []) 0b1
     ∷ row RawIp (Port SrcOrDst none 0) ([] ∷ []) 0
     ∷ row Ethernet (EtherHost SrcAndDst (out 6 0)) ([] ∷ replicate 12 0 ∷ replicate 5 0 ∷ (0 ∷ 1 ∷ []) ∷ []) 0b1110
-    ∷ row LinuxSll (EtherHost SrcAndDst (out 6 0)) ([] ∷ []) 0b1
+    -- the address length cut in two, and the sender's address
+    ∷ row LinuxSll (EtherHost Src (out 6 0)) ([] ∷ map (cutTo (sent 6 0)) (5 ∷ 6 ∷ 11 ∷ [])) 0b0011
     ∷ row Ethernet EtherMulticast ([] ∷ (1 ∷ []) ∷ []) 0b01
     ∷ row RawIp IpBroadcast ([] ∷ []) 0
     -- the ethertype cut in two

@@ -69,6 +69,25 @@ module _ (f : List ℕ) where
   segmentsAgree p at [] = true
   segmentsAgree p at (s ∷ ss) = eqb (first p (h at)) (first p s) && segmentsAgree (p - 16) (at + 2) ss
 
+-- "Ether host: source 6-11". T-03: a cooked capture "carries a sender address at byte 6"; "The sender test also wants the 16-bit address
+-- length at byte 4 to be 6"
+abbrev pub fromStation : LinkType → List ℕ → List ℕ → Bool
+fromStation Ethernet f a = bytesAre f 6 a
+fromStation RawIp f a = bytesAre f 6 a
+fromStation LinuxSll f a = eqb (h f 4) 6 && bytesAre f 6 a
+
+-- ".. destination 0-5"; "Cooked captures have no destination address": a test of it is number 15 in a build, and false here
+abbrev pub toStation : LinkType → List ℕ → List ℕ → Bool
+toStation Ethernet f a = bytesAre f 0 a
+toStation RawIp f a = bytesAre f 0 a
+toStation LinuxSll f a = false
+
+-- "Ether multicast: b(0) odd."; the same of a cooked capture
+abbrev pub toMany : LinkType → List ℕ → Bool
+toMany Ethernet f = eqb (b f 0 % 2) 1
+toMany RawIp f = eqb (b f 0 % 2) 1
+toMany LinuxSll f = false
+
 -- "Kind v: h at that place is v; on RawIp true for 0x0800 and false for every other v." ".. the ethertype's place 12, none, 14 by link"
 unfoldable pub kind : LinkType → List ℕ → ℕ → Bool
 kind Ethernet f v = eqb (h f 12) v
@@ -125,11 +144,9 @@ module _ (L : LinkType) (f : List ℕ) where
   readsPrimitive (Port d p k) = transport (portSet p) (portTest d (λ v. eqb v k))
   -- "Range: low ≤ port ≤ high."
   readsPrimitive (PortRange d p lo hi) = transport (portSet p) (portTest d (λ v. leb lo v && leb v hi))
-  -- "Ether host: source 6-11, destination 0-5, on LinuxSll too."
-  readsPrimitive (EtherHost d a) = sides d (bytesAre f 6 a) (bytesAre f 0 a)
+  readsPrimitive (EtherHost d a) = sides d (fromStation L f a) (toStation L f a)
   readsPrimitive (EtherProto v) = kind L f v
-  -- "Ether multicast: b(0) odd."
-  readsPrimitive EtherMulticast = eqb (b f 0 % 2) 1
+  readsPrimitive EtherMulticast = toMany L f
   -- "Broadcast: kind 0x0800, w(n+16)=0xffffffff."
   readsPrimitive IpBroadcast = kind L f 0x0800 && eqb (w f (n + 16)) 0xffff_ffff
   -- "Multicast: kind 0x0800, top bits 1110", of the destination

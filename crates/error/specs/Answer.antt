@@ -1,7 +1,10 @@
 -- Document 01's table of refusals, those that the requests add, and answers that may be one of them.
 use Prim.Native.Nat.{ℕ}
+use mathlib.Core.List.{List, [], _∷_}
+use mathlib.Core.Bool.{Bool, false, _||_}
+use lib.Dec.{eqb, T}
 use Rattle.error.specs.declared.Refusal.{Refusal}
-use Rattle.error.specs.declared.Refusal.the-variants.{StrangeFile, WrongCount, BadRecord, NotOneTree, KindOnRaw, PortProtocol, EtherOnRaw, FarJump, ShortBuffer, LongFrame, OddProgram, NoCapture, OtherLink, CutFrame}
+use Rattle.error.specs.declared.Refusal.the-variants.{StrangeFile, WrongCount, BadRecord, NotOneTree, KindOnRaw, PortProtocol, EtherOnRaw, FarJump, ShortBuffer, LongFrame, OddProgram, NoCapture, OtherLink, CutFrame, CookedAddress}
 
 -- "| Number | Word | Given when |"
 abbrev pub numberOf : Refusal → ℕ
@@ -20,6 +23,17 @@ numberOf OddProgram = 11
 numberOf NoCapture = 12
 numberOf OtherLink = 13
 numberOf CutFrame = 14
+-- T-03: 15 "cooked address"
+numberOf CookedAddress = 15
+
+-- a number is one of these
+abbrev pub among : List ℕ → ℕ → Bool
+among [] n = false
+among (m ∷ ms) n = eqb n m || among ms n
+
+-- a refusal has one of these numbers
+abbrev pub Numbered : List ℕ → Refusal → Type 0
+Numbered ms r = T (among ms (numberOf r))
 
 -- a value, or a refusal
 pub data Out (A : Type 0) : Type 0 where

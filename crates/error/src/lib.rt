@@ -18,6 +18,7 @@ pub enum Refusal {
     NoCapture,
     OtherLink,
     CutFrame,
+    CookedAddress,
 }
 
 // The number, which is not 0 and takes a byte.
@@ -39,5 +40,6 @@ pub fn refusal_number(refusal: Refusal) -> u32
         Refusal::NoCapture => 12,
         Refusal::OtherLink => 13,
         Refusal::CutFrame => 14,
+        Refusal::CookedAddress => 15,
     }
 }

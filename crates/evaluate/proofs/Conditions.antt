@@ -9,9 +9,9 @@ use borrow.Author.Tests.{le-leb, lt-leb, leb-true, eqb-true, eqb-false}
 use lib.Dec.{eqb, leb}
 use Rattle.ast.specs.declared.LinkType.{LinkType}
 use Rattle.ast.specs.declared.Dir.{Dir}
-use Rattle.ast.specs.Tree.{Proto, Port, PortRange, Host6, Net6, EtherHost}
+use Rattle.ast.specs.Tree.{Proto, Port, PortRange, Host6, Net6}
 use Rattle.ast.specs.Record.{portProtoOf}
-use Rattle.direct.specs.Reading.{sides, portSet, portTest, transport, bytesAre, readsPrimitive}
+use Rattle.direct.specs.Reading.{portSet, portTest, transport, readsPrimitive}
 use Rattle.evaluate.specs.Promise.{ranged}
 
 -- the protocols whose set is empty
@@ -71,7 +71,3 @@ module _ (L : LinkType) (f : List ℕ) (d : Dir) where
   pub host6-reads : (a : List ℕ) → readsPrimitive L f (Net6 d 128 a) ≡ readsPrimitive L f (Host6 d a)
   unfolding readsPrimitive
   host6-reads a = refl
-
-  pub ether-reads : (a : List ℕ) → sides d (bytesAre f 6 a) (bytesAre f 0 a) ≡ readsPrimitive L f (EtherHost d a)
-  unfolding readsPrimitive
-  ether-reads a = refl

@@ -16,7 +16,7 @@ ghost use lib.ListN.{length};
 ghost use lib.Dec.{eqb};
 ghost use Rattle.bpf.specs.Bytes.{be, bytesAt};
 ghost use Rattle.ast.specs.Record.{protoOf};
-ghost use Rattle.ast.specs.Tree.{Host4, Net, Net6, IpBroadcast, IpMulticast, Ip6Multicast};
+ghost use Rattle.ast.specs.Tree.{Host4, Net, Net6, EtherHost, EtherMulticast, IpBroadcast, IpMulticast, Ip6Multicast};
 ghost use Rattle.direct.specs.Reading as R;
 ghost use Rattle.direct.specs.Direct.{direct};
 ghost use Rattle.reader.specs.Reader.{place, leafAt, LeafHere, Here};
@@ -282,19 +282,45 @@ fn bytes_are(frame: &[u8], at: usize, address: [u8; 6]) -> bool
     true
 }
 
-fn ether_host(frame: &[u8], d: Dir, address: [u8; 6]) -> bool
-    ensures { λ r. ⌜ r ≡ R.sides d (R.bytesAre (now (frame .entry)) 6 address) (R.bytesAre (now (frame .entry)) 0 address) ⌝ }
+// The source's address, or the sender's in a cooked capture, whose length has to be 6.
+fn from_station(link: LinkType, frame: &[u8], address: [u8; 6]) -> bool
+    ensures { λ r. ⌜ r ≡ R.fromStation link (now (frame .entry)) address ⌝ }
 {
-    let source = bytes_are(frame, 6, address);
-    let destination = bytes_are(frame, 0, address);
+    match link {
+        LinkType::Ethernet => bytes_are(frame, 6, address),
+        LinkType::RawIp => bytes_are(frame, 6, address),
+        LinkType::LinuxSll => half(frame, 4) == 6 && bytes_are(frame, 6, address),
+    }
+}
+
+// A cooked capture has no destination address.
+fn to_station(link: LinkType, frame: &[u8], address: [u8; 6]) -> bool
+    ensures { λ r. ⌜ r ≡ R.toStation link (now (frame .entry)) address ⌝ }
+{
+    match link {
+        LinkType::Ethernet => bytes_are(frame, 0, address),
+        LinkType::RawIp => bytes_are(frame, 0, address),
+        LinkType::LinuxSll => false,
+    }
+}
+
+fn ether_host(link: LinkType, frame: &[u8], d: Dir, address: [u8; 6]) -> bool
+    ensures { λ r. ⌜ r ≡ R.readsPrimitive link (now (frame .entry)) (EtherHost d address) ⌝ }
+{
+    let source = from_station(link, frame, address);
+    let destination = to_station(link, frame, address);
     sides(d, source, destination)
 }
 
-// The first byte is odd.
-fn ether_multicast(frame: &[u8]) -> bool
-    ensures { λ r. ⌜ r ≡ eqb (be 1 0 (now (frame .entry)) % 2) 1 ⌝ }
+// The first byte is odd. A cooked capture has no destination address.
+fn ether_multicast(link: LinkType, frame: &[u8]) -> bool
+    ensures { λ r. ⌜ r ≡ R.readsPrimitive link (now (frame .entry)) EtherMulticast ⌝ }
 {
-    byte(frame, 0) % 2 == 1
+    match link {
+        LinkType::Ethernet => byte(frame, 0) % 2 == 1,
+        LinkType::RawIp => byte(frame, 0) % 2 == 1,
+        LinkType::LinuxSll => false,
+    }
 }
 
 // ---- destinations of many
@@ -366,9 +392,9 @@ fn eval_primitive(tree: &[u8], i: usize, link: LinkType, frame: &[u8]) -> bool
             let high = half_at(tree, i, 6);
             port_range(link, frame, d, byte_at(tree, i, 2), low, high)
         }
-        17 => ether_host(frame, d, ether_at(tree, i)),
+        17 => ether_host(link, frame, d, ether_at(tree, i)),
         18 => is_kind(link, frame, half_at(tree, i, 4)),
-        19 => ether_multicast(frame),
+        19 => ether_multicast(link, frame),
         20 => ip_broadcast(link, frame),
         21 => ip_multicast(link, frame),
         22 => ip6_multicast(link, frame),

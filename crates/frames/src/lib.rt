@@ -62,6 +62,7 @@ fn put_refusal(fd: i32, r: Refusal) -> bool {
         Refusal::NoCapture => text(fd, b"no capture"),
         Refusal::OtherLink => text(fd, b"other link"),
         Refusal::CutFrame => text(fd, b"cut frame"),
+        Refusal::CookedAddress => text(fd, b"cooked address"),
     }
 }
 

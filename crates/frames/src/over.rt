@@ -64,7 +64,11 @@ fn first(buffer: &[u8], n: usize) -> &[u8] {
 // A tree that passes checks 1 to 4 has a direct reading.
 fn is_tree(r: Refusal) -> bool {
     match r {
-        Refusal::KindOnRaw | Refusal::PortProtocol | Refusal::EtherOnRaw | Refusal::FarJump => true,
+        Refusal::KindOnRaw
+        | Refusal::PortProtocol
+        | Refusal::EtherOnRaw
+        | Refusal::FarJump
+        | Refusal::CookedAddress => true,
         _ => false,
     }
 }

@@ -14,7 +14,7 @@ use Rattle.capture.specs.Counting as Counting
 
 -- the number of this interface: a landing that adds to it raises it by one
 abbrev pub version : ℕ
-version = 2
+version = 3
 
 -- a refusal as "256 + refusal number"; 0 where there is none
 abbrev pub beyond : ℕ → ℕ

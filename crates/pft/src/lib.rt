@@ -19,7 +19,7 @@ ghost use Rattle.capture.specs.Capture.{frameAt};
 ghost use Rattle.count.specs.Count.{count};
 ghost use Rattle.pft.specs.Numbers.{version, runNumber, buildNumber, directNumber, countNumber, frameNumber};
 
-const VERSION: u32 = 2;
+const VERSION: u32 = 3;
 
 fn truth(b: bool) -> u32
     ensures { λ r. ⌜ r ≡ cond b 1 0 ⌝ }

@@ -13,8 +13,7 @@ use Rattle.bpf.specs.Bytes.{be, bytesAt, segmentsAt}
 use Rattle.bpf.proofs.Parts.{be-bytes, length-segments}
 use Rattle.ast.specs.declared.LinkType.{LinkType}
 use Rattle.ast.specs.declared.Dir.{Dir}
-use Rattle.ast.specs.declared.Dir.the-variants.{SrcOrDst, Src, Dst, SrcAndDst}
-use Rattle.ast.specs.Tree.{Proto, Protocol, EtherHost}
+use Rattle.ast.specs.Tree.{Proto, Protocol}
 use Rattle.ast.specs.Record.{dirOf, protoOf, portProtoOf}
 use Rattle.codegen.specs.declared.L4Set.{L4Set}
 use Rattle.codegen.specs.declared.Known.{Known}
@@ -22,7 +21,7 @@ use Rattle.codegen.specs.declared.Known.the-variants.{Unknown, Is}
 use Rattle.codegen.specs.declared.Facts.{Facts}
 use Rattle.codegen.specs.Protocols.{rowOf, smallOf, known, l4setFor}
 use Rattle.codegen.specs.Guards.{primitiveGuards}
-use Rattle.codegen.specs.Emit.{netOffset, Code, checkLoads, checkBlocks, checkIp6Addr, checkNet6, checkRange, checkMac, guarded, emitRow, ported, ether, emitPrimitive}
+use Rattle.codegen.specs.Emit.{netOffset, Code, checkLoads, checkBlocks, checkIp6Addr, checkNet6, checkRange, checkMac, turned, sender, guarded, emitRow, ported, ether, emitPrimitive}
 use Rattle.codegen.proofs.Nets6.{whole-prefix}
 use Rattle.facts.specs.declared.SetResult.{SetResult}
 use Rattle.facts.specs.declared.SetResult.the-variants as Set
@@ -32,7 +31,7 @@ use Rattle.reader.proofs.ByKind.{kind10, kind11, kind12, kind13, kind14, kind15
 use Rattle.guards.proofs.Noting.{set-any}
 use Rattle.emit.specs.Lines.{opOf}
 use Rattle.conditions.specs.declared.Mask.the-variants.{Whole, Under}
-use Rattle.conditions.specs.Loads.{load, turned, macBlock}
+use Rattle.conditions.specs.Loads.{load, macBlock}
 use Rattle.ports.specs.Hoist.{portedBy}
 use Rattle.primitives.specs.Kinds.{PortKind, Simple, prefixOf, rowEmit, guardsEmit}
 
@@ -41,14 +40,6 @@ use Rattle.primitives.specs.Kinds.{PortKind, Simple, prefixOf, rowEmit, 
 -- a host is a net whose prefix reaches over all segments
 whole-address : (at o : ℕ) (s : List ℕ) → checkNet6 128 at (segmentsAt 8 o s) ≡ checkIp6Addr at (segmentsAt 8 o s)
 whole-address at o s = whole-prefix 128 at (segmentsAt 8 o s) (omega (arith, length-segments 8 o s))
-
--- the destination is tested first
-ether-turned : (L : LinkType) (d : Dir) (a : List ℕ) (g : Facts) → emitPrimitive L (EtherHost d a) g ≡ ether L (checkBlocks (turned d) (checkMac a 0) (checkMac a 6)) g
-unfolding emitPrimitive checkBlocks
-ether-turned L SrcOrDst a g = refl
-ether-turned L Src a g = refl
-ether-turned L Dst a g = refl
-ether-turned L SrcAndDst a g = refl
 
 -- the numbers of an ether address where they stand in the file
 mac-bytes : (o at : ℕ) (s : List ℕ) {four two : ℕ} → four ≡ be 4 o s → two ≡ be 2 (o + 4) s → checkMac (bytesAt 6 o s) at ≡ macBlock four two at
@@ -118,12 +109,12 @@ module _ {s : List ℕ} {i : ℕ} (h : LeafHere s i) (L : LinkType) (g : Facts) 
       go false t = net6 (sym e ∙ other (eqb-false k 12 t)) d₀ (p₀ ∙ rw t) a₀
 
   pub ether-host : {d : Dir} {four two : ℕ} → be 1 (place i) s ≡ 17 → d ≡ dirOf (be 1 (place i + 1) s) → four ≡ be 4 (place i + 8) s → two ≡ be 2 (place i + 12) s
-      → emitPrimitive L (leafAt s i) g ≡ ether L (checkBlocks (turned d) (macBlock four two 0) (macBlock four two 6)) g
+      → emitPrimitive L (leafAt s i) g ≡ ether L (checkBlocks (turned d) (macBlock four two 0) (macBlock four two 6)) (sender d (macBlock four two 6)) g
+  unfolding emitPrimitive
   ether-host {d} {four} {two} k d₀ four₀ two₀ =
       let o = place i + 8 in
       let t : two ≡ be 2 (o + 4) s = two₀ ∙ ap (λ (n : ℕ). be 2 n s) (omega arith) in
-      rw (kind17 h k, ether-turned L (dirOf (be 1 (place i + 1) s)) (bytesAt 6 o s) g, ← d₀)
-      (ap₂ (λ x y. ether L (checkBlocks (turned d) x y) g) (mac-bytes o 0 s four₀ t) (mac-bytes o 6 s four₀ t))
+      rw (kind17 h k, ← d₀) (ap₂ (λ x y. ether L (checkBlocks (turned d) x y) (sender d y) g) (mac-bytes o 0 s four₀ t) (mac-bytes o 6 s four₀ t))
 
   -- the ports of a set
   module _ {p : ℕ} {a : SetResult} (p₀ : p ≡ be 1 (place i + 2) s) (ask : a ≡ setResult (l4setFor (portProtoOf p 0))) where

@@ -174,7 +174,7 @@ fn emit_simple(
             facts,
             reader::half_at(tree, i, 4) as u32,
         ),
-        19 => conditions::emit_ether_multicast(link, insns, failure, p, facts),
+        19 => ether::emit_ether_multicast(link, insns, failure, p, facts),
         20 => conditions::emit_ip_broadcast(link, insns, failure, p, facts),
         21 => conditions::emit_ip_multicast(link, insns, failure, p, facts),
         22 => conditions::emit_ip6_multicast(link, insns, failure, p, facts),
@@ -207,7 +207,7 @@ pub fn emit_primitive(
             let dir = reader::direction(tree, i);
             let four = reader::word_at(tree, i, 8);
             let two = reader::half_at(tree, i, 12) as u32;
-            conditions::emit_ether_host(link, insns, success, failure, p, facts, dir, four, two)
+            ether::emit_ether_host(link, insns, success, failure, p, facts, dir, four, two)
         }
         _ => emit_simple(tree, i, kind, link, insns, failure, p, facts),
     }

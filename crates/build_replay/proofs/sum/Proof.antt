@@ -8,7 +8,7 @@ abbrev Inv-loop : tie.InvT-loop
 Inv-loop tally total₀ i₀ total i = Unit {0}
 
 abbrev μ-loop : tie.MeasureT-loop
-μ-loop tally total₀ i₀ total i = 10 - i
+μ-loop tally total₀ i₀ total i = 16 - i
 
 pub sum-spec : {M : Type 1} → statement M
 sum-spec =

@@ -4,7 +4,7 @@ use Rattle.evaluate.proofs.eval_primitive.Tie as tie
 use mathlib.Core.Path.{_∙_}
 use Rattle.reader.proofs.Firsts.{kind-is, kind-not}
 use Rattle.reader.proofs.ByKind.{protocol-known, kind10, kind11, kind12, kind13, kind14, kind15, kind16, kind17, kind18, kind19, kind20, kind21, kind22, kind23, kind24}
-use Rattle.evaluate.proofs.Conditions.{port-reads, range-reads, host6-reads, ether-reads}
+use Rattle.evaluate.proofs.Conditions.{port-reads, range-reads, host6-reads}
 use Rattle.direct.specs.Reading.{readsPrimitive}
 use Rattle.ast.specs.Record.{portProtoOf}
 use Rattle.bpf.specs.Bytes.{be}
@@ -64,9 +64,7 @@ returns-7 c = let s = c .before .before .before .before .before .before .before 
 returns-8 : tie.Need-returns-8
 returns-8 c = let s = c .before .before .before .before .before .before .before .args .tree .now in
     let i = c .before .before .before .before .before .before .before .args .i in
-    let L = c .before .before .before .before .before .before .before .args .link in
-    let f = c .before .before .before .before .before .before .before .args .frame .now in
-    rw (kind17 (c .before .before .before .before .before .before .before .pre) (kind-is s i (c .before .before .before .before .byte-at .ensures) (c .before .before .match .keys8)), ← c .before .before .before .direction .ensures, ← c .before .ether-at .ensures) (c .ether-host .ensures ∙ ether-reads L f (c .before .before .before .direction .result) (c .before .ether-at .result))
+    rw (kind17 (c .before .before .before .before .before .before .before .pre) (kind-is s i (c .before .before .before .before .byte-at .ensures) (c .before .before .match .keys8)), ← c .before .before .before .direction .ensures, ← c .before .ether-at .ensures) (c .ether-host .ensures)
 
 returns-9 : tie.Need-returns-9
 unfolding readsPrimitive
@@ -75,7 +73,6 @@ returns-9 c = let s = c .before .before .before .before .before .before .before 
     rw (kind18 (c .before .before .before .before .before .before .before .pre) (kind-is s i (c .before .before .before .before .byte-at .ensures) (c .before .before .match .keys9)), ← c .before .half-at4 .ensures) (c .is-kind .ensures)
 
 returns-10 : tie.Need-returns-10
-unfolding readsPrimitive
 returns-10 c = let s = c .before .before .before .before .before .before .args .tree .now in
     let i = c .before .before .before .before .before .before .args .i in
     rw (kind19 (c .before .before .before .before .before .before .pre) (kind-is s i (c .before .before .before .byte-at .ensures) (c .before .match .keys10))) (c .ether-multicast .ensures)

@@ -1,6 +1,6 @@
 use borrow.Author.Needs.{needs}
-use Rattle.conditions.proofs.turned.Statement.{statement}
-use Rattle.conditions.proofs.turned.Tie as tie
+use Rattle.ether.proofs.turned.Statement.{statement}
+use Rattle.ether.proofs.turned.Tie as tie
 
 returns : tie.Need-returns
 returns c = rw (c .enum-told .given .1)
