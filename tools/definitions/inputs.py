@@ -6,7 +6,8 @@ instruction that the run fetched.
 """
 import struct
 
-from trees import AND, BOTH, EITHER, ETHERNET, NOT, OR, RAWIP, SLL, SOURCE, half, header, record
+from trees import AND, BOTH, DESTINATION, EITHER, ETHER, ETHERNET, NOT, OR, RAWIP, SLL, SOURCE
+from trees import half, header, record
 
 # ── Files of ports and their protocols ───────────────────────────────────────
 
@@ -50,6 +51,10 @@ def port_file(rng):
 ADDRESS = bytes.fromhex("20010db8000100020003000400050006")
 HOST4 = record(11, EITHER, address=ADDRESS[:4])
 MULTICAST = record(19)
+MULTICAST6 = record(22)
+SENDER = record(17, SOURCE, address=ADDRESS[:6])
+# A condition that knows no facts and shares no test, by link.
+PLAIN = {ETHERNET: MULTICAST, SLL: SENDER}
 
 
 def chain(length):
@@ -60,29 +65,63 @@ def chain(length):
     for size, direction in ((32, BOTH), (16, SOURCE)):
         leaves += [record(12, direction, address=ADDRESS)] * (rest // size)
         rest %= size
-    leaves += [MULTICAST] * (rest // 2)
+    leaves += [MULTICAST6] * (rest // 2)
     return [record(AND)] * (len(leaves) - 1) + leaves
 
 
 # The chain alone, negated, on either side of an or: its jumps by jf, by jt and
 # by ja reach as far as it is long.
 SHAPES = [
-    lambda c: c,
-    lambda c: [record(NOT)] + c,
-    lambda c: [record(OR), MULTICAST] + c,
-    lambda c: [record(OR), HOST4] + c,
-    lambda c: [record(OR)] + c + [MULTICAST],
-    lambda c: [record(NOT), record(OR), HOST4] + c,
-    lambda c: [record(AND), record(NOT)] + c + [HOST4],
-    lambda c: [record(OR), record(NOT), MULTICAST] + c,
+    lambda c, plain: c,
+    lambda c, plain: [record(NOT)] + c,
+    lambda c, plain: [record(OR), plain] + c,
+    lambda c, plain: [record(OR), HOST4] + c,
+    lambda c, plain: [record(OR)] + c + [plain],
+    lambda c, plain: [record(NOT), record(OR), HOST4] + c,
+    lambda c, plain: [record(AND), record(NOT)] + c + [HOST4],
+    lambda c, plain: [record(OR), record(NOT), plain] + c,
 ]
 
 
-def growing(shape):
+def tree_file(link, records):
+    return header(link, len(records)) + b"".join(records)
+
+
+def growing(shape, link):
     """The same tree with chains of growing length."""
-    for length in range(240, 262):
-        records = shape(chain(length))
-        yield header(ETHERNET, len(records)) + b"".join(records)
+    return [tree_file(link, shape(chain(length), PLAIN[link])) for length in range(240, 262)]
+
+
+# ── Cooked trees ─────────────────────────────────────────────────────────────
+
+TCP = record(10, protocol=5)
+PORT = record(15, EITHER, numbers=half(53))
+BAD_PORT = record(15, EITHER, 7, numbers=half(53))
+# What LinuxSll turns down with 15.
+OTHER_SIDES = [record(17, d, address=ADDRESS[:6]) for d in (EITHER, DESTINATION, BOTH)]
+NO_SENDER = [*OTHER_SIDES, MULTICAST]
+FAR = 300
+
+
+def is_cooked(file):
+    """An ether address on LinuxSll: the second generator answers for it."""
+    return file[5] == SLL and any(r[0] in ETHER for r in records_of(file))
+
+
+def cooked_files():
+    """Sender tests alone and joined, 15 alone, and 15 with 6 and with 8 in either order."""
+    joins = (record(AND), record(OR))
+    pairs = ((SENDER, TCP), (PORT, SENDER), (SENDER, SENDER))
+    taken = [[SENDER], [record(NOT), SENDER]]
+    taken += [[join, *pair] for join in joins for pair in pairs]
+    taken += [[record(OR), record(AND), SENDER, PORT, record(AND), PORT, record(NOT), SENDER]]
+    turned_down = [[leaf] for leaf in NO_SENDER]
+    turned_down += [[record(OR), SENDER, leaf] for leaf in NO_SENDER]
+    for i, leaf in enumerate(NO_SENDER):
+        turned_down += [[joins[i % 2], *pair] for pair in ((leaf, BAD_PORT), (BAD_PORT, leaf))]
+    far = [record(NOT)] + chain(FAR)
+    turned_down += [[record(AND), *far, MULTICAST], [record(AND), MULTICAST, *far]]
+    return [tree_file(SLL, records) for records in taken + turned_down]
 
 
 # ── Programs ─────────────────────────────────────────────────────────────────
@@ -281,6 +320,29 @@ def put(frame, at, data):
     frame[at : at + len(data)] = data
 
 
+# Lengths of a cooked sender's address: an ether address's, mostly, and others.
+SENDER_LENGTHS = [6, 6, 6, 6, 6, 0, 7, 8, 0x0106, 0x0506, 0x0600]
+
+
+def cooked_readings():
+    """Files of one ether condition on LinuxSll with frames, and what T-03 says of them: source
+    and either ask for a sender's address of six bytes, and nothing else is ever true."""
+    wanted, other = ADDRESS[:6], near_miss(ADDRESS[:6])
+    lengths = sorted(set(SENDER_LENGTHS))
+    frames = [(length, sender) for length in lengths for sender in (wanted, other)]
+    for leaf in [SENDER, *NO_SENDER]:
+        asks = leaf[0] == 17 and leaf[1] in (EITHER, SOURCE)
+        for length, sender in frames:
+            frame = b"\1\0\0\1" + half(length) + sender + bytes(4 + REACH)
+            yield tree_file(SLL, [leaf]), frame, asks and (length, sender) == (6, wanted)
+        # the address where an ether header has its destination, and its source
+        yield tree_file(SLL, [leaf]), wanted + wanted + bytes(4 + REACH), False
+
+
+def near_miss(address):
+    return address[:-1] + bytes([address[-1] ^ 1])
+
+
 def network4(rng, pool, body):
     words = rng.pick([5, 5, 5, 6, 15, 0, 3, 14])
     body[0] = 0x40 + words
@@ -312,4 +374,6 @@ def frame_for(rng, pool, link):
         return bytes(body)
     head = bytearray(near(rng, rng.pick(pool.macs)) + near(rng, rng.pick(pool.macs)) + bytes(NETWORK[link] - 12))
     put(head, NETWORK[link] - 2, half(kind ^ (1 << rng.below(16) if rng.one_in(8) else 0)))
+    if link == SLL:
+        put(head, 4, half(rng.pick(SENDER_LENGTHS)))
     return bytes(head + body)

@@ -59,7 +59,8 @@ def entries(text):
 OTHERS = {"accepted": "dropped", "short": "broken", "Some(true)": "Some(false)", "EINVAL": "ENOMEM",
           "error": "never", "SIGABRT": "SIGFPE", "loops": "accepted 1", "None": "Some(true)"}
 OTHERS |= {"dropped": "accepted", "broken": "short", "Some(false)": "Some(true)", "never": "error",
-           "SIGFPE": "SIGABRT", "kept": "dropped", "not opened": "other link", "other link": "not opened"}
+           "SIGFPE": "SIGABRT", "kept": "dropped", "not opened": "other link", "other link": "not opened",
+           "true": "false", "false": "true"}
 
 
 def altered(cell):

@@ -3,8 +3,9 @@ import re
 
 from notation import tree_file
 
-ETHERNET = 1
-OR, AND, IP, ICMP_PORT = "02", "01", "0a0001", "0f0007000001"
+ETHERNET, SLL = 1, 3
+OR, AND, IP, ICMP_PORT, ETHER_MULTICAST = "02", "01", "0a0001", "0f0007000001", "13"
+JOINS = {"and": AND, "or": OR}
 NUMBERS = {"seven": 7, "eight": 8}
 
 
@@ -32,10 +33,23 @@ def ip6_hosts(count):
     return joined(OR, [ip6_host(0, n) for n in numbers]), words
 
 
+# Twenty times ::1 in both, joined by and.
+X20 = [AND] * 19 + [ip6_host(3, 1)] * 20
+
+
 def x20(join):
-    """Twenty times ::1 in both, joined by and; then a port with Icmp."""
-    hosts = [AND] * 19 + [ip6_host(3, 1)] * 20
-    return tree_file(ETHERNET, [{"and": AND, "or": OR}[join], *hosts, ICMP_PORT]), None
+    """X20, then a port with Icmp."""
+    return tree_file(ETHERNET, [JOINS[join], *X20, ICMP_PORT]), None
+
+
+def x20_cooked(join):
+    """X20, then an ether multicast."""
+    return tree_file(SLL, [JOINS[join], *X20, ETHER_MULTICAST]), None
+
+
+def cooked_x20(join):
+    """An ether multicast, then X20."""
+    return tree_file(SLL, [JOINS[join], ETHER_MULTICAST, *X20]), None
 
 
 # A pattern, and what makes the tree from its first group.
@@ -43,6 +57,8 @@ SAID = [
     (r'Ethernet, Ip, then (\d+) times "or ether host, source", all different.*', ether_hosts),
     (r"Ethernet, (\w+) IPv6 hosts, either, joined by or", ip6_hosts),
     (r"Ethernet, X20 (and|or) port with Icmp", x20),
+    (r"LinuxSll, X20 (and|or) ether multicast", x20_cooked),
+    (r"LinuxSll, ether multicast (and|or) X20", cooked_x20),
 ]
 
 

@@ -2,7 +2,6 @@
 import ctypes
 import errno
 import os
-import pathlib
 import select
 import shutil
 import signal
@@ -31,36 +30,28 @@ def shell(words, **options):
 # ---- the Rust
 
 class Rust:
-    """The unchanged Rust: its generator by the oracle, its machine by verdict.rs."""
+    """The unchanged Rust: its generator and its machine by verdict.rs."""
 
     def __init__(self, source, folder):
-        oracle = folder / "oracle"
-        shell([str(ROOT / "tools" / "oracle" / "build"), source, str(oracle)])
-        copies = pathlib.Path(f"{oracle}.d")
+        copies, program = folder / "rust", str(folder / "verdict")
+        shell([str(ROOT / "tools" / "oracle" / "copies"), source, str(copies)])
         shutil.copy(ROOT / "tools" / "differences" / "verdict.rs", copies)
-        machine = str(folder / "verdict")
-        options = ["-O", "--edition", "2021", "-A", "dead_code", "-o", machine]
+        options = ["-O", "--edition", "2021", "-A", "dead_code", "-o", program]
         shell(["rustc", *options, str(copies / "verdict.rs")])
-        self.builds = self.start([str(oracle), "build"])
-        self.runs = self.start([machine])
+        self.process = subprocess.Popen([program], stdin=subprocess.PIPE, stdout=subprocess.PIPE, text=True)
 
-    @staticmethod
-    def start(words):
-        return subprocess.Popen(words, stdin=subprocess.PIPE, stdout=subprocess.PIPE, text=True)
-
-    @staticmethod
-    def ask(process, line):
-        process.stdin.write(line + "\n")
-        process.stdin.flush()
-        return process.stdout.readline().strip() or fail("the Rust gave no answer")
+    def ask(self, *words):
+        self.process.stdin.write(" ".join(words) + "\n")
+        self.process.stdin.flush()
+        return self.process.stdout.readline().strip() or fail("the Rust gave no answer")
 
     def build(self, tree):
-        """The program in hex, or `refused N`."""
-        answer = self.ask(self.builds, tree.hex())
-        return answer if answer.startswith("refused") else answer.split()[1]
+        """The program, or `refused N`."""
+        answer = self.ask("build", tree.hex())
+        return answer if answer.startswith("refused") else bytes.fromhex(answer)
 
     def run(self, program, frame):
-        return self.ask(self.runs, f"{program.hex() or '-'} {frame.hex() or '-'}")
+        return self.ask("run", program.hex() or "-", frame.hex() or "-")
 
 
 # ---- libpcap

@@ -1,6 +1,6 @@
 """Broken copies of the Rust, and of what stands beside it: what is wrong, the
-file, a text that it has once, and the text in its place; for a single value also
-the stage that has to find it."""
+file, a text that it has once, and the text in its place; for a single value, and for
+the second generator on trees that are not cooked, also the stage that has to find it."""
 import argparse
 
 # Document 01: "Wrong turns seen in such code".
@@ -605,6 +605,12 @@ BUFFER = [
         "space.resize(MARGIN + length, if number < 65536 { 0 } else { STALE });",
     ),
     (
+        "15 leaves the buffer as it was",
+        "builds",
+        "space.resize(MARGIN + length, 0);",
+        "space.resize(MARGIN + length, if number == 15 << 16 { STALE } else { 0 });",
+    ),
+    (
         "a byte behind the buffer is zeroed",
         "builds",
         "space.resize(MARGIN + length, 0);",
@@ -766,6 +772,43 @@ READINGS = [
         "17 => self.link != 2 && self.ether_host(r),",
     ),
     (
+        "the length of a sender's address is not read",
+        "meaning",
+        "self.h(SENDER_LENGTH) == ETHER_LENGTH && side(6)",
+        "side(6)",
+    ),
+    (
+        "the length of a sender's address is read as a byte",
+        "meaning",
+        "self.h(SENDER_LENGTH) == ETHER_LENGTH &&",
+        "self.h(SENDER_LENGTH) % 256 == ETHER_LENGTH &&",
+    ),
+    (
+        "the length of a sender's address may be 0x0706",
+        "meaning",
+        "self.h(SENDER_LENGTH) == ETHER_LENGTH &&",
+        "[ETHER_LENGTH, 0x0706].contains(&self.h(SENDER_LENGTH)) &&",
+        "senders",
+    ),
+    (
+        "a cooked destination is read at 0",
+        "meaning",
+        "return directed(r[1], sender, || false);",
+        "return directed(r[1], sender, || side(0));",
+    ),
+    (
+        "a cooked ether host is read as the sender in every direction",
+        "meaning",
+        "return directed(r[1], sender, || false);",
+        "return sender();",
+    ),
+    (
+        "ether multicast is read at 0 on LinuxSll",
+        "meaning",
+        "19 => self.link != LINUX_SLL && self.b(0) % 2 == 1,",
+        "19 => self.b(0) % 2 == 1,",
+    ),
+    (
         "a port is read directly wrong for 5004",
         "meaning",
         "15 => self.ports(r, a, a),",
@@ -792,6 +835,207 @@ READINGS = [
         "14 => self.address6(r, |i| prefix_byte(r[3], i)),",
         "14 => self.address6(r, |i| prefix_byte(r[3] - (r[3] == 77) as u8, i)),",
         "numbers",
+    ),
+]
+
+
+# T-03: the second generator, by which the builds of cooked trees are judged.
+COOKED = [
+    (
+        "the Rust judges cooked trees",
+        "answers",
+        "link == LinkType::LinuxSll && records",
+        "link != link && records",
+    ),
+    (
+        "the Rust judges cooked trees without an ether host",
+        "answers",
+        "const ETHER_ADDRESSES: [u8; 2] = [17, 19];",
+        "const ETHER_ADDRESSES: [u8; 2] = [17, 17];",
+    ),
+    (
+        "the length of a sender's address is tested after it",
+        "conditions",
+        """let mut steps = equal(code::LDH, SENDER_LENGTH, ETHER_BYTES);
+    steps.extend(ether_address(r, SENDER));""",
+        """let mut steps = ether_address(r, SENDER);
+    steps.extend(equal(code::LDH, SENDER_LENGTH, ETHER_BYTES));""",
+    ),
+    (
+        "the length of a sender's address is at 5",
+        "conditions",
+        "const SENDER_LENGTH: u32 = 4;",
+        "const SENDER_LENGTH: u32 = 5;",
+    ),
+    (
+        "the length of a sender's address has to be 8",
+        "conditions",
+        "const ETHER_BYTES: u32 = 6;",
+        "const ETHER_BYTES: u32 = 8;",
+    ),
+    (
+        "the length of a sender's address is not tested",
+        "conditions",
+        "let mut steps = equal(code::LDH, SENDER_LENGTH, ETHER_BYTES);",
+        "let mut steps = Vec::new();",
+    ),
+    (
+        "the length of a sender's address is a byte",
+        "conditions",
+        "equal(code::LDH, SENDER_LENGTH, ETHER_BYTES)",
+        "equal(code::LDB, SENDER_LENGTH + 1, ETHER_BYTES)",
+    ),
+    (
+        "a sender's address is at 4",
+        "conditions",
+        "const SENDER: u32 = 6;",
+        "const SENDER: u32 = 4;",
+    ),
+    (
+        "LinuxSll takes ether multicast",
+        "conditions",
+        "COOKED => Err(COOKED_ADDRESS),",
+        "",
+    ),
+    (
+        "LinuxSll takes an ether host in either direction, as the sender",
+        "conditions",
+        "(COOKED, SOURCE) =>",
+        "(COOKED, SOURCE | 0) =>",
+    ),
+    (
+        "LinuxSll takes an ether host in both directions, as the sender",
+        "conditions",
+        "(COOKED, SOURCE) =>",
+        "(COOKED, SOURCE | 3) =>",
+    ),
+    (
+        "LinuxSll takes an ether destination at 0",
+        "conditions",
+        "(COOKED, _) =>",
+        "(COOKED, 0 | 3) =>",
+    ),
+    (
+        "LinuxSll answers 7",
+        "conditions",
+        "const COOKED_ADDRESS: Number = 15;",
+        "const COOKED_ADDRESS: Number = 7;",
+    ),
+    (
+        "15 is looked for before the walk",
+        "second",
+        "let raw = link == RAW_IP;\n    let mut generator",
+        """let raw = link == RAW_IP;
+    if records.iter().any(|r| matches!(rest(link, 0, r), Err(15))) {
+        return Err(15);
+    }
+    let mut generator""",
+    ),
+    (
+        "15 wins over an earlier 8",
+        "second",
+        "generator.part(0, Ends { yes, no })?;",
+        """let met = generator.part(0, Ends { yes, no });
+    if met == Err(8) && records.iter().any(|r| matches!(rest(link, 0, r), Err(15))) {
+        return Err(15);
+    }
+    met?;""",
+    ),
+    (
+        "15 gives way to a later 6",
+        "second",
+        "generator.part(0, Ends { yes, no })?;",
+        """let met = generator.part(0, Ends { yes, no });
+    if met == Err(15) && records.iter().any(|r| matches!(rest(link, 0, r), Err(6))) {
+        return Err(6);
+    }
+    met?;""",
+    ),
+    (
+        "a sender test makes IPv4 known",
+        "second",
+        "Rest::Steps(steps) => self.emit(&steps, ends.no),",
+        """Rest::Steps(steps) => {
+                self.emit(&steps, ends.no);
+                if self.link == COOKED && r[KIND] == kind::ETHER_HOST {
+                    self.known[ETHERTYPE].get_or_insert(IPV4);
+                }
+            }""",
+    ),
+    (
+        "a sender test makes ports unready",
+        "second",
+        "Rest::Steps(steps) => self.emit(&steps, ends.no),",
+        """Rest::Steps(steps) => {
+                self.emit(&steps, ends.no);
+                if self.link == COOKED && r[KIND] == kind::ETHER_HOST {
+                    self.known[PORTS] = None;
+                }
+            }""",
+    ),
+    (
+        "a half 0x5e7f of a sender's address is 0x5e7e",
+        "conditions",
+        "steps.extend(ether_address(r, SENDER));",
+        """steps.extend(ether_address(r, SENDER));
+    for step in steps.iter_mut().filter(|step| step.1 == 0x5e7f) {
+        step.1 -= 1;
+    }""",
+        "senders",
+    ),
+]
+
+# The same generator where the Rust judges it, on all other trees.
+SECOND = [
+    (
+        "an Ethernet source wants a length too",
+        "conditions",
+        "(COOKED, SOURCE) =>",
+        "(_, SOURCE) =>",
+        "second",
+    ),
+    (
+        "an or shares no test",
+        "second",
+        "self.hoist(shared(left, right), ends.no)?;",
+        "let _ = (left, right);",
+        "second",
+    ),
+    (
+        "ports stay ready whatever X was written",
+        "second",
+        "if self.program[since..].iter().any(loads_x) {",
+        "if self.program[since..].iter().any(loads_x) && self.link > COOKED {",
+        "second",
+    ),
+    (
+        "ports of TCP and SCTP have a set",
+        "conditions",
+        "Some(a | b).filter(|set| a == b || set & SCTP == 0)",
+        "Some(a | b)",
+        "second",
+    ),
+    (
+        "a distance of 256 is taken",
+        "second",
+        "const LONGEST: usize = 255;",
+        "const LONGEST: usize = 256;",
+        "second",
+    ),
+    (
+        "a far jump is met at the end alone",
+        "second",
+        """if distance > LONGEST {
+                return Err(FAR_JUMP);
+            }""",
+        """if distance > LONGEST && label > 1 {
+                self.waiting[1].push(jump);
+                continue;
+            }
+            if distance > LONGEST {
+                return Err(FAR_JUMP);
+            }""",
+        "second",
     ),
 ]
 
@@ -900,6 +1144,13 @@ CAPTURES = [
         "captures",
         "refusal => refused(refusal),",
         "refusal => refused(self.given.refusal.unwrap_or(refusal)),",
+    ),
+    (
+        "15 comes after 12 to 14",
+        "captures",
+        "refusal => refused(refusal),",
+        """15 => refused(self.given.refusal.unwrap_or(15)),
+            refusal => refused(refusal),""",
     ),
     (
         "9 comes after 12 to 14",
@@ -1109,6 +1360,8 @@ GROUPS = [
     ("joins", JOINS),
     ("jumps", JUMPS),
     ("conditions", CONDITIONS),
+    ("cooked trees", COOKED),
+    ("second generator", SECOND),
     ("machine", MACHINE),
     ("checks", CHECKS),
     ("buffer", BUFFER),

@@ -1,28 +1,91 @@
-//! Tree files through `pft_build` and through the published Rust: the answer and
-//! every byte of the buffer.
+//! Tree files through `pft_build` and through the published Rust, cooked ones through
+//! the second generator: the answer and every byte of the buffer.
 
 use std::collections::{BTreeMap, HashMap};
 
 use crate::bpf::Insn;
-use crate::part::{to_hex, Parts};
+use crate::part::{to_hex, Answers, Parts};
 use crate::trees::{self, edges, systematic, Rng};
 use crate::wide::widened;
-use crate::{exports, insn, shrink, Number, HEADER, INSN, MAX_PROGRAM, MAX_RECORDS, RECORD};
+use crate::{exports, insn, second, shrink, Number};
+use crate::{HEADER, INSN, LINK, MAX_PROGRAM, MAX_RECORDS, RECORD};
 
 /// Bytes before and after the lent part, and what the lent part holds before.
 const MARGIN: usize = 16;
 const CANARY: u8 = 0xC5;
 const STALE: u8 = 0x5A;
 
-/// What the Rust says of a file: the program's bytes, or the refusal.
+/// What a generator makes of a file: the program's bytes, or the refusal.
 pub type Answer = Result<Vec<u8>, Number>;
 
-pub fn bytes_of(insns: &[Insn]) -> Vec<u8> {
-    insns.iter().flat_map(|i| i.to_le_bytes()).collect()
+pub fn bytes_of(built: &Result<Vec<Insn>, Number>) -> Answer {
+    let insns = built.as_ref().map_err(|n| *n)?.iter();
+    Ok(insns.flat_map(|i| i.to_le_bytes()).collect())
 }
 
-pub fn rust_answer(file: &[u8]) -> Answer {
-    Ok(bytes_of(&crate::build(file)?))
+/// The answer that the port's has to be: the Rust's, or the second generator's of a cooked
+/// tree.
+pub fn answer_of(file: &[u8]) -> Answer {
+    bytes_of(&crate::build(file))
+}
+
+fn is_cooked(file: &[u8]) -> bool {
+    let cooked = |(link, records): (_, Vec<_>)| crate::is_cooked(link, &records);
+    file.get(LINK) == Some(&trees::SLL) && crate::check(file).is_ok_and(cooked)
+}
+
+/// Whose answer the port's has to be.
+fn judge(file: &[u8]) -> &'static str {
+    match is_cooked(file) {
+        true => "the second generator",
+        false => "the Rust",
+    }
+}
+
+/// Counts a build that is compared.
+pub fn note(file: &[u8], answer: &Answer, parts: &mut Parts) {
+    parts.builds.compared += 1;
+    if is_cooked(file) {
+        parts.cooked[answer.as_ref().err().copied().unwrap_or(0) as usize] += 1;
+    }
+}
+
+// ── The second generator ─────────────────────────────────────────────────────
+
+/// What the second generator makes of a tree that the Rust judges.
+fn second_answer(file: &[u8]) -> Option<Answer> {
+    let (link, records) = crate::check(file).ok()?;
+    let rusts = !crate::is_cooked(link, &records);
+    rusts.then(|| bytes_of(&second::program(file[LINK], &records)))
+}
+
+/// How the second generator differs from the Rust.
+fn second_difference(file: &[u8]) -> Option<String> {
+    let (here, there) = (second_answer(file)?, answer_of(file));
+    let said = |answer: &Answer| match answer {
+        Ok(program) => format!("count {}", program.len() / INSN),
+        Err(n) => format!("refused {n}"),
+    };
+    let text = || {
+        let (here, there, tree) = (said(&here), said(&there), to_hex(file));
+        format!("it answers {here}, the Rust {there}, tree {tree}")
+    };
+    (here != there).then(text)
+}
+
+/// Holds the second generator to the Rust's answer, wherever that is at hand.
+pub fn hold_second(file: &[u8], answer: &Answer, parts: &mut Parts) {
+    let Some(second) = second_answer(file) else {
+        return;
+    };
+    parts.second.compared += 1;
+    if second != *answer {
+        let text = || {
+            let least = shrink::tree(file, |f| second_difference(f).is_some());
+            second_difference(&least).unwrap_or_default()
+        };
+        parts.second.differs(file.len(), text);
+    }
 }
 
 // ── One call ─────────────────────────────────────────────────────────────────
@@ -85,8 +148,7 @@ pub struct Met {
     calls: u64,
     /// Calls that answered 9.
     short: u64,
-    /// Accepted, then by refusal.
-    answers: [u64; 9],
+    answers: Answers,
     /// Files that are one tree, and those accepted, by link, kind, direction and
     /// protocol of a condition.
     conditions: HashMap<[u8; 4], [u64; 2]>,
@@ -99,7 +161,7 @@ pub struct Met {
     /// Files made to pass the limit: by how many instructions they do.
     passed: [u64; 2],
     /// Files with these faults, by the refusal.
-    faults: BTreeMap<Vec<u32>, [u64; 9]>,
+    faults: BTreeMap<Vec<u32>, Answers>,
 }
 
 /// The longest way that a program's jt, jf and ja go.
@@ -120,7 +182,7 @@ impl Met {
         Met {
             calls: 0,
             short: 0,
-            answers: [0; 9],
+            answers: Answers::default(),
             conditions: HashMap::new(),
             large: 0,
             instructions: 0,
@@ -165,8 +227,8 @@ impl Met {
 
     fn print(&self) {
         println!("accepted: {}", self.answers[0]);
-        for (n, count) in self.answers.iter().enumerate().skip(1) {
-            println!("refused {n}: {count}");
+        for n in (1..=8).chain([15]) {
+            println!("refused {n}: {}", self.answers[n]);
         }
         println!(
             "refused 9: {} of {} calls of pft_build",
@@ -181,7 +243,7 @@ impl Met {
         self.print_faults();
     }
 
-    /// There are 429 conditions in all, and 193 that can be accepted.
+    /// There are 429 conditions in all, and 189 that can be accepted.
     fn print_conditions(&self) {
         let counts = || {
             self.conditions
@@ -235,16 +297,17 @@ impl Met {
 /// Compares every buffer of one file; counts one difference at most.
 fn compare(file: &[u8], answer: &Answer, sizes: &mut Rng, met: &mut Met, parts: &mut Parts) {
     met.note(file, answer);
-    parts.builds.compared += 1;
+    note(file, answer, parts);
     for length in lengths(sizes, answer) {
         met.calls += 1;
         met.short += answer.as_ref().is_ok_and(|p| p.len() > length) as u64;
         if let Some(words) = difference(file, answer, length) {
             let text = || any_difference(file).map_or(words, |_| least_difference(file));
             parts.builds.differs(file.len(), text);
-            return;
+            break;
         }
     }
+    hold_second(file, answer, parts);
 }
 
 /// The smallest input that differs for one of a few lengths.
@@ -269,21 +332,22 @@ pub fn difference(file: &[u8], answer: &Answer, length: usize) -> Option<String>
     let place = other_byte(&here.1, &there.1);
     let (here, there, tree) = (shown(here.0), shown(there.0), to_hex(file));
     let place = if here == there { place } else { String::new() };
+    let judge = judge(file);
     Some(format!(
-        "buffer of {length}: pft_build {here}, the Rust {there}{place}, tree {tree}"
+        "buffer of {length}: pft_build {here}, {judge} {there}{place}, tree {tree}"
     ))
 }
 
 /// The same for the exact length, more, less and none.
 fn any_difference(file: &[u8]) -> Option<String> {
-    let answer = rust_answer(file);
+    let answer = answer_of(file);
     let exact = answer.as_ref().map_or(600, Vec::len);
     let mut lengths = [exact, exact + 9, exact - 1, 0].into_iter();
     lengths.find_map(|length| difference(file, &answer, length))
 }
 
 fn compare_file(file: &[u8], sizes: &mut Rng, met: &mut Met, parts: &mut Parts) {
-    compare(file, &rust_answer(file), sizes, met, parts);
+    compare(file, &answer_of(file), sizes, met, parts);
 }
 
 fn shown(number: u32) -> String {
@@ -299,7 +363,7 @@ fn compare_tuned(rng: &mut Rng, sizes: &mut Rng, met: &mut Met, parts: &mut Part
     let mut at_limit = false;
     let mut beyond = 0;
     for file in &files {
-        let answer = rust_answer(file);
+        let answer = answer_of(file);
         compare(file, &answer, sizes, met, parts);
         match answer {
             Ok(program) => at_limit = distances(&program).contains(&255),
@@ -316,14 +380,15 @@ fn compare_tuned(rng: &mut Rng, sizes: &mut Rng, met: &mut Met, parts: &mut Part
 /// A file with several faults; the refusal has to be one that they allow.
 fn compare_faulty(rng: &mut Rng, sizes: &mut Rng, met: &mut Met, parts: &mut Parts) {
     let faulty = edges::faulty(rng);
-    let answer = rust_answer(&faulty.file);
+    let answer = answer_of(&faulty.file);
     compare(&faulty.file, &answer, sizes, met, parts);
     let refusal = answer.err();
     if !faulty.fits(refusal) {
         parts.builds.differs(faulty.file.len(), || {
             format!(
-                "faults {:?}, the Rust {refusal:?}, tree {}",
+                "faults {:?}, {} {refusal:?}, tree {}",
                 faulty.faults,
+                judge(&faulty.file),
                 to_hex(&faulty.file)
             )
         });
@@ -333,15 +398,13 @@ fn compare_faulty(rng: &mut Rng, sizes: &mut Rng, met: &mut Met, parts: &mut Par
 }
 
 /// Files without a draw.
-fn compare_systematic(sizes: &mut Rng, met: &mut Met, parts: &mut Parts) {
+fn systematic_files() -> impl Iterator<Item = Vec<u8>> {
     let nots = (1..=3).flat_map(|link| (0..MAX_RECORDS).map(move |n| trees::nots(link, n)));
     let headers = systematic::headers()
         .chain(systematic::lengths())
         .chain(systematic::counts());
     let records = systematic::record_bytes().chain(systematic::pairs());
-    for file in nots.chain(headers).chain(records) {
-        compare_file(&file, sizes, met, parts);
-    }
+    nots.chain(headers).chain(records)
 }
 
 /// So many random files, then the systematic ones.
@@ -363,6 +426,23 @@ pub fn compare_all(seed: u64, count: u64, parts: &mut Parts) {
     while made < count / 8 {
         made += 1 + compare_tuned(&mut edge, &mut sizes, &mut met, parts);
     }
-    compare_systematic(&mut sizes, &mut met, parts);
+    for file in systematic_files() {
+        compare_file(&file, &mut sizes, &mut met, parts);
+    }
     met.print();
+}
+
+/// The second generator alone, on files as above: what is wrong in it, and not only with
+/// cooked trees, is found without the port.
+pub fn hold_all(seed: u64, count: u64, parts: &mut Parts) {
+    let (mut rng, mut edge, mut wide) = (Rng(seed), Rng(seed ^ 0xED6E), Rng(seed ^ 0x31DE));
+    let drawn = (0..count).flat_map(|i| match i % 8 {
+        0 => edges::tuned(&mut edge, |file| crate::build(file).err()),
+        1 => vec![edges::junk(&mut edge)],
+        2 | 3 => vec![edges::faulty(&mut edge).file],
+        _ => vec![widened(&mut wide, trees::tree_file(&mut rng))],
+    });
+    for file in drawn.chain(systematic_files()) {
+        hold_second(&file, &answer_of(&file), parts);
+    }
 }

@@ -9,7 +9,7 @@ use crate::builds;
 use crate::drafts::Spoiled;
 use crate::filter::{bodies, drawn_filter, faults, written, Filter};
 use crate::machine::{ACCEPTED, BROKEN, DROPPED, SHORT};
-use crate::part::{to_hex, Parts, FIRST};
+use crate::part::{to_hex, Answers, Parts, FIRST};
 use crate::pcap::{self, Given, Order, LONGEST, MARKS, NO_CAPTURE, OTHER_LINK};
 use crate::trees::Rng;
 use crate::{exports, fail, ranges, shrink, Number};
@@ -189,7 +189,7 @@ pub struct Met<'p> {
     pub parts: &'p mut Parts,
     captures: u64,
     /// Calls of pft_count, by refusal.
-    answers: [u64; 15],
+    answers: Answers,
     /// Captures that 12 lets through, by byte order and mark.
     forms: [[u64; 2]; 2],
     /// Frames that were run, by verdict.
@@ -213,7 +213,7 @@ impl Met<'_> {
         Met {
             parts,
             captures: 0,
-            answers: [0; 15],
+            answers: Answers::default(),
             forms: [[0; 2]; 2],
             verdicts: [0; 5],
             ends: [0; 2],
@@ -246,7 +246,7 @@ impl Met<'_> {
         let calls: u64 = self.answers.iter().sum();
         println!("captures: {} in {calls} calls of pft_count", self.captures);
         println!("read to the end: {}", self.answers[0]);
-        for n in (1..=9).chain(12..=14) {
+        for n in (1..=9).chain(12..=15) {
             println!("refused {n}: {}", self.answers[n]);
         }
         let [[a, b], [c, d]] = self.forms;
@@ -266,7 +266,7 @@ impl Met<'_> {
         println!("captures cut short: {}", self.cuts);
         println!("trees within the capture: {}", self.within);
         println!(
-            "answers of a build, by sets of faults of a capture: {} of 80",
+            "answers of a build, by sets of faults of a capture: {} of 88",
             self.sets.len()
         );
         let [lengths, twelve, fourteen] = self.places;
@@ -275,12 +275,13 @@ impl Met<'_> {
 
     /// A tree with which nothing can be said of captures: the builds differ.
     pub fn builds_differ(&mut self, filter: &Filter) -> bool {
-        self.parts.builds.compared += 1;
+        builds::note(&filter.file, &filter.answer, self.parts);
         let differ = builds::quick_difference(&filter.file, &filter.answer);
         if differ {
             let text = || builds::least_difference(&filter.file);
             self.parts.builds.differs(filter.file.len(), text);
         }
+        builds::hold_second(&filter.file, &filter.answer, self.parts);
         differ
     }
 

@@ -6,7 +6,7 @@ use super::*;
 // ── Longest jumps of 254 to 257 ──────────────────────────────────────────────
 
 /// Instructions of a leaf, its kind and the ports' place once known.
-fn reach(r: &Record) -> usize {
+fn reach(v: &Values, r: &Record) -> usize {
     let (segments, rest) = ((r[3].min(128) as usize).div_ceil(16), r[3] % 16);
     let net6 = 2 * segments + (r[3] < 128 && rest > 0) as usize;
     let by_direction = match r[0] {
@@ -14,7 +14,7 @@ fn reach(r: &Record) -> usize {
         15 => [4, 2, 2, 4],
         16 => [7, 3, 3, 6],
         21 => [3, 0, 0, 0],
-        _ => return length(r),
+        _ => return length(v, r),
     };
     by_direction[r[1] as usize]
 }
@@ -53,10 +53,11 @@ impl Tuned {
         let mut v = Values::new(rng, if link == RAWIP { V4 } else { ALL });
         v.directions = rng.pick(&[vec![0], vec![3], vec![0, 3], vec![0, 1, 2, 3]]);
         v.prefixes = vec![rng.pick(&PREFIXES), 127, 128];
+        v.senders = link == SLL;
         v.port_protocols = vec![rng.pick(&PORT_PROTOCOLS)];
         let join = rng.pick(&[AND, OR]);
         let row = Tuned::row(rng, &v, join, kinds);
-        let filler = record(if link == RAWIP { 20 } else { 19 });
+        let filler = leaf(rng, &v, if link == RAWIP { 20 } else { 19 });
         let first = leaf(rng, &v, kinds[0]);
         let outer = record(rng.pick(&[AND, OR]));
         let inner = record(rng.pick(&[AND, OR]));
@@ -83,7 +84,7 @@ impl Tuned {
         while sum < target && leaves.len() < 50 {
             let kind = rng.pick(kinds);
             let next = leaf(rng, v, kind);
-            sum += reach(&next) + (join == OR) as usize;
+            sum += reach(v, &next) + (join == OR) as usize;
             leaves.push(next);
         }
         in_a_row(rng, join, leaves)
@@ -154,23 +155,30 @@ impl Faulty {
     }
 }
 
-/// Two or three of the numbers 1 to 8, or of 5 to 8 alone.
+/// The numbers of faults that go together: those of RawIp, which 5 and 7 are for, and those
+/// of LinuxSll, which 15 is for. The last ones are met in the walk.
+const RAW_FAULTS: &[u32] = &[1, 2, 3, 4, 5, 6, 7, 8];
+const COOKED_FAULTS: &[u32] = &[1, 2, 3, 4, 6, 8, 15];
+const FROM_WALK: usize = 4;
+
+/// Two or three of the numbers of one link, or of those of the walk alone.
 fn faults(rng: &mut Rng) -> Vec<u32> {
-    let least = rng.pick(&[1, 5]);
+    let of_link = rng.pick(&[RAW_FAULTS, COOKED_FAULTS]);
+    let least = rng.pick(&[0, FROM_WALK]);
     let wanted = rng.between(2, 3);
-    let mut all: Vec<u32> = (least..=8).collect();
+    let mut all = of_link[least..].to_vec();
     while all.len() > wanted {
         all.remove(rng.below(all.len()));
     }
     all
 }
 
-/// A part of the tree that a number of 5 to 8 turns down.
+/// A part of the tree that a number of the walk turns down.
 fn bad_part(rng: &mut Rng, link: u8, fault: u32) -> Vec<Record> {
     match fault {
         5 => vec![misfit(rng, link, Some(RAW_FIVE))],
-        6 => vec![misfit(rng, link, Some(&[15, 16]))],
-        7 => vec![misfit(rng, link, Some(&[17, 19]))],
+        6 => vec![misfit(rng, link, Some(PORT_KINDS))],
+        7 | 15 => vec![misfit(rng, link, Some(ETHER_KINDS))],
         _ => far_part(rng, link),
     }
 }
@@ -206,16 +214,17 @@ fn joined(rng: &mut Rng, mut parts: Vec<Vec<Record>>) -> Vec<Record> {
     parts.remove(0)
 }
 
-/// A good tree and what the faults of 5 to 8 name, once or twice.
+/// A good tree and what the faults of the walk name, once or twice.
 fn bad_tree(rng: &mut Rng, link: u8, faults: &[u32]) -> Vec<Record> {
-    let v = Values::new(rng, if link == RAWIP { V4 } else { ALL });
+    let mut v = Values::new(rng, if link == RAWIP { V4 } else { ALL });
+    v.senders = link == SLL;
     let (shape, n) = (Shape::new(rng), rng.between(1, 9));
     let mut good = Vec::new();
     tree(rng, &v, &shape, n, &mut good);
     let mut parts = vec![good];
     for fault in faults.iter().copied().filter(|f| *f >= 5) {
         let part = bad_part(rng, link, fault);
-        if fault < 8 && rng.one_in(2) {
+        if fault != 8 && rng.one_in(2) {
             parts.push(part.clone());
         }
         parts.push(part);
@@ -267,9 +276,10 @@ fn strange(rng: &mut Rng, file: &mut Vec<u8>) {
 
 pub fn faulty(rng: &mut Rng) -> Faulty {
     let faults = faults(rng);
-    let raw = faults.contains(&5) || faults.contains(&7);
-    let link = if raw {
+    let link = if faults.contains(&5) || faults.contains(&7) {
         RAWIP
+    } else if faults.contains(&15) {
+        SLL
     } else {
         rng.pick(&[ETHERNET, RAWIP, SLL])
     };

@@ -1,5 +1,5 @@
-//! Trees for captures: what the Rust makes of them, frames that they look at, and captures
-//! of such frames.
+//! Trees for captures: what the Rust, or the second generator, makes of them, frames that
+//! they look at, and captures of such frames.
 
 use crate::bpf::Insn;
 use crate::builds::{self, Answer};
@@ -10,7 +10,7 @@ use crate::trees::{self, edges, Rng};
 use crate::wide::widened;
 use crate::{frames, Number};
 
-/// A tree file and what the Rust makes of it.
+/// A tree file and what is made of it.
 pub struct Filter {
     pub file: Vec<u8>,
     pub link: u8,
@@ -25,7 +25,7 @@ impl Filter {
         Filter {
             file: file.to_vec(),
             link: link.unwrap_or(1),
-            answer: built.as_deref().map(builds::bytes_of).map_err(|n| *n),
+            answer: builds::bytes_of(&built),
             insns: built.unwrap_or_default(),
         }
     }

@@ -1,8 +1,8 @@
 //! Frames that a tree looks at: its own values put where it reads them, and
 //! near misses.
 
-use crate::trees::Rng;
-use crate::{HEADER, RECORD};
+use crate::trees::{Rng, SLL};
+use crate::{HEADER, LINK, RECORD};
 
 /// How far past the network start a frame is drawn.
 pub const REACH: usize = 64;
@@ -16,8 +16,16 @@ pub fn network(link: u8) -> usize {
     }
 }
 
+/// Where an ether header has source and destination; a cooked one has the sender's address
+/// at the same place as the source, and its length.
+const ETHER_SOURCE: usize = 6;
+const ETHER_DESTINATION: usize = 0;
+const SENDER_LENGTH: usize = 4;
+pub const ETHER_LENGTH: [u8; 2] = [0, 6];
+
 /// A frame in the making.
 pub struct Sketch {
+    link: u8,
     /// Where the ethertype stands.
     kind_at: Option<usize>,
     pub n: usize,
@@ -28,6 +36,7 @@ impl Sketch {
     pub fn new(link: u8, frame: Vec<u8>) -> Sketch {
         let n = network(link);
         Sketch {
+            link,
             kind_at: n.checked_sub(2),
             n,
             frame,
@@ -68,6 +77,13 @@ impl Sketch {
     pub fn transport6(&mut self, number: u8) -> usize {
         self.protocol6(number);
         self.n + 40
+    }
+
+    /// The length of the sender's address, which only a cooked frame has.
+    pub fn sender_length(&mut self, length: [u8; 2]) {
+        if self.link == SLL {
+            self.put(SENDER_LENGTH, &length);
+        }
     }
 
     /// Bytes at the source (1), the destination (2) or both (3).
@@ -176,13 +192,38 @@ impl Aim<'_> {
         self.sides(r[1], at, at + 2, &port.to_be_bytes());
     }
 
+    /// An ether address. A cooked frame mostly has a length with it, which may overwrite a
+    /// part of what stands where others have the destination.
+    fn ether_host(&mut self, r: &[u8]) {
+        const LENGTHS: [[u8; 2]; 10] = [
+            [0, 0],
+            [0, 7],
+            [0, 8],
+            [0, 4],
+            [0, 0x86],
+            [1, 6],
+            [5, 6],
+            [6, 6],
+            [0x80, 6],
+            [6, 0],
+        ];
+        self.sides(r[1], ETHER_SOURCE, ETHER_DESTINATION, &r[8..14]);
+        let length = match self.rng.below(16) {
+            0..=8 => ETHER_LENGTH,
+            9..=13 => self.rng.pick(&LENGTHS),
+            14 => (self.rng.draw() as u16).to_be_bytes(),
+            _ => return,
+        };
+        self.to.sender_length(length);
+    }
+
     fn leaf(&mut self, r: &[u8]) {
         let n = self.to.n;
         match r[0] {
             10 => self.protocol(r),
             11..=14 => self.address(r),
             15 | 16 => self.port(r),
-            17 => self.sides(r[1], 6, 0, &r[8..14]),
+            17 => self.ether_host(r),
             18 => self.to.kind(u16::from_be_bytes([r[4], r[5]])),
             19 => self.to.put(0, &[1]),
             20 => {
@@ -249,12 +290,12 @@ fn ground(rng: &mut Rng, size: usize) -> Vec<u8> {
 
 /// A frame for a tree file that passes checks 1 to 4, two bytes longer than n + 64.
 pub fn aimed(rng: &mut Rng, file: &[u8]) -> Vec<u8> {
-    let frame = ground(rng, network(file[5]) + REACH + 2);
+    let frame = ground(rng, network(file[LINK]) + REACH + 2);
     let truth = rng.below(3) > 0;
     let mut aim = Aim {
         rng,
         records: file[HEADER..].chunks_exact(RECORD).collect(),
-        to: Sketch::new(file[5], frame),
+        to: Sketch::new(file[LINK], frame),
     };
     if aim.rng.below(2) == 0 {
         aim.to.kind(0x0800);
@@ -262,6 +303,23 @@ pub fn aimed(rng: &mut Rng, file: &[u8]) -> Vec<u8> {
     aim.tree(0, truth);
     aim.miss();
     aim.to.frame
+}
+
+/// How a frame fares with the first sender test of a tree: whether the high byte and the low
+/// byte of the length are as wanted, and the address.
+pub fn sender_test(file: &[u8], frame: &[u8]) -> Option<[bool; 3]> {
+    let is_sender = |r: &&[u8]| file[LINK] == SLL && r[..2] == [17, 1];
+    let sender = file[HEADER..].chunks_exact(RECORD).find(is_sender)?;
+    let [.., high, low] = *frame.get(..SENDER_LENGTH + 2)? else {
+        return None;
+    };
+    let address = frame.get(ETHER_SOURCE..ETHER_SOURCE + 6)?;
+    let [wanted_high, wanted_low] = ETHER_LENGTH;
+    Some([
+        high == wanted_high,
+        low == wanted_low,
+        *address == sender[8..14],
+    ])
 }
 
 /// Other bytes for what follows a place.

@@ -2,12 +2,12 @@
 //! keeps what has hardly fewer instructions, at the end none fewer. Every program
 //! that it meets is compared.
 
-use crate::builds::{least_difference, quick_difference, rust_answer};
+use crate::builds::{answer_of, hold_second, least_difference, note, quick_difference};
 use crate::frames;
 use crate::part::Parts;
 use crate::shrink::end;
 use crate::trees::edges::file_of;
-use crate::trees::{self, leaf, record, Record, Rng, Values, ALL, AND, MOST, NOT, OR};
+use crate::trees::{self, leaf, record, Record, Rng, Values, ALL, AND, MOST, NOT, OR, SLL, SOURCE};
 use crate::trial::Trial;
 use crate::INSN;
 
@@ -47,7 +47,7 @@ impl Climber {
         let (link, records) = trees::ladder_file(rng);
         Climber {
             link,
-            records,
+            records: taken(link, records),
             length: 0,
         }
     }
@@ -65,8 +65,17 @@ impl Climber {
         while records.len() > MOST {
             records = shortened(rng, &records);
         }
-        records
+        taken(self.link, records)
     }
+}
+
+/// LinuxSll takes of the ether conditions the sender's alone.
+fn taken(link: u8, mut records: Vec<Record>) -> Vec<Record> {
+    let ether = |r: &&mut Record| link == SLL && matches!(r[0], 17 | 19);
+    for r in records.iter_mut().filter(ether) {
+        (r[0], r[1]) = (17, SOURCE);
+    }
+    records
 }
 
 /// Without a not, or without one part of a join, a leaf mostly.
@@ -141,12 +150,13 @@ fn changed_leaf(rng: &mut Rng, part: &[Record]) -> Vec<Record> {
 
 /// How many instructions a file has, 0 if it is refused; the builds are compared.
 fn measured(file: &[u8], met: &mut Met) -> usize {
-    let answer = rust_answer(file);
-    met.parts.builds.compared += 1;
+    let answer = answer_of(file);
+    note(file, &answer, met.parts);
     if quick_difference(file, &answer) {
         let text = || least_difference(file);
         met.parts.builds.differs(file.len(), text);
     }
+    hold_second(file, &answer, met.parts);
     let length = answer.map_or(0, |program| program.len() / INSN);
     met.programs += (length > 0) as u64;
     met.refused += (length == 0) as u64;

@@ -1,5 +1,6 @@
 //! Compares the port with the published Rust: builds, runs, direct readings; and
-//! captures.
+//! captures. Cooked trees are compared with a second generator, which on all others is
+//! held to the Rust.
 //!
 //! differential SEED COUNT                compares
 //! differential --captures SEED COUNT [PROGRAM FOLDER]
@@ -65,6 +66,9 @@ const STAGES: [(&str, Stage); 5] = [
 /// A run of its own, besides those.
 const CAPTURES: (&str, Stage) = ("captures", captures::compare_all);
 
+/// Part of every comparison of builds; by itself where it is what is broken.
+const SECOND: (&str, Stage) = ("second", builds::hold_all);
+
 fn compare_captures(seed: u64, count: u64, program: Option<(&str, &str)>) {
     let mut parts = Parts::new();
     captures::compare_all(seed, count, &mut parts);
@@ -96,7 +100,7 @@ fn compare_all(seed: u64, count: u64) {
 fn compare_first(name: &str, seed: u64, count: u64) {
     part::FIRST.store(true, std::sync::atomic::Ordering::Relaxed);
     let mut parts = Parts::new();
-    let mut stages = STAGES.iter().chain([&CAPTURES]);
+    let mut stages = STAGES.iter().chain([&CAPTURES, &SECOND]);
     match stages.find(|(n, _)| *n == name) {
         Some((_, stage)) => stage(seed, count, &mut parts),
         None if sweep::is_field(name) => sweep::compare(name, seed, &mut parts),

@@ -2,15 +2,21 @@
 //! reading". It shares nothing with the port, its definitions or the Rust: a
 //! second reading of the same words.
 //!
-//! The file has to pass checks 1 to 4. Trees that the build refuses with 5 to 8
+//! The file has to pass checks 1 to 4. Trees that the build refuses with 5 to 8 or 15
 //! have a reading too: a kind other than 0x0800 is false on RawIp, ether
 //! conditions read their bytes there as elsewhere, and the set of a port protocol
-//! that number 6 refuses is empty.
+//! that number 6 refuses is empty. A cooked frame has a sender, whose address length
+//! has to be an ether address's, and no destination (T-03).
 
 const IP4: u16 = 0x0800;
 const IP6: u16 = 0x86DD;
 const ARP: u16 = 0x0806;
 const RARP: u16 = 0x8035;
+
+const LINUX_SLL: u8 = 3;
+/// Where a cooked frame has the length of its sender's address, and the length wanted.
+const SENDER_LENGTH: usize = 4;
+const ETHER_LENGTH: u16 = 6;
 
 /// A frame on its link. Bytes past the end are zero.
 struct View<'a> {
@@ -113,6 +119,10 @@ impl View<'_> {
 
     fn ether_host(&self, r: &[u8]) -> bool {
         let side = |at| self.bytes_under(at, &r[8..14], |_| 0xFF);
+        if self.link == LINUX_SLL {
+            let sender = || self.h(SENDER_LENGTH) == ETHER_LENGTH && side(6);
+            return directed(r[1], sender, || false);
+        }
         directed(r[1], || side(6), || side(0))
     }
 
@@ -129,7 +139,7 @@ impl View<'_> {
             16 => self.ports(r, a, u16::from_be_bytes([r[6], r[7]])),
             17 => self.ether_host(r),
             18 => self.kind(a),
-            19 => self.b(0) % 2 == 1,
+            19 => self.link != LINUX_SLL && self.b(0) % 2 == 1,
             20 => self.kind(IP4) && (16..20).all(|i| self.b(n + i) == 0xFF),
             21 => self.kind(IP4) && self.b(n + 16) / 16 == 0xE,
             22 => self.kind(IP6) && self.b(n + 24) == 0xFF,

@@ -5,6 +5,9 @@ use std::sync::atomic::{AtomicBool, Ordering};
 /// Whether to end at the first difference.
 pub static FIRST: AtomicBool = AtomicBool::new(false);
 
+/// How often each answer of a build was met: accepted, then by refusal up to 15.
+pub type Answers = [u64; 16];
+
 /// How many differences of a part are shown: those with the smallest inputs.
 const SHOWN: usize = 3;
 
@@ -59,21 +62,27 @@ pub enum Blame {
     Reading,
 }
 
-/// Builds, runs over one and the same program, readings, and captures.
+/// Builds, the second generator, runs over one and the same program, readings, and
+/// captures.
 pub struct Parts {
     pub builds: Part,
+    pub second: Part,
     pub machine: Part,
     pub readings: Part,
     pub captures: Part,
+    /// Of the builds those that the second generator judges, by its answers.
+    pub cooked: Answers,
 }
 
 impl Parts {
     pub fn new() -> Parts {
         Parts {
             builds: Part::new("builds"),
+            second: Part::new("second generator"),
             machine: Part::new("machine"),
             readings: Part::new("readings"),
             captures: Part::new("captures"),
+            cooked: Answers::default(),
         }
     }
 
@@ -84,13 +93,33 @@ impl Parts {
         }
     }
 
-    fn all(&self) -> [&Part; 4] {
-        [&self.builds, &self.machine, &self.readings, &self.captures]
+    fn all(&self) -> [&Part; 5] {
+        [
+            &self.builds,
+            &self.second,
+            &self.machine,
+            &self.readings,
+            &self.captures,
+        ]
+    }
+
+    fn print_cooked(&self) {
+        let [accepted, refused @ ..] = self.cooked;
+        let cooked = accepted + refused.iter().sum::<u64>();
+        let met = (1..).zip(refused).filter(|(_, count)| *count > 0);
+        let met: String = met
+            .map(|(n, count)| format!(", refused {n}: {count}"))
+            .collect();
+        let whose = "cooked trees, compared with the second generator";
+        println!("{whose}: {cooked}, accepted {accepted}{met}");
     }
 
     /// Each part that was asked, then the line of all; how many differences there were.
     pub fn print(&self) -> u64 {
         let asked = |part: &&Part| part.compared + part.differences > 0;
+        if asked(&&self.builds) {
+            self.print_cooked();
+        }
         let parts = self.all().into_iter().filter(asked);
         parts.for_each(Part::print);
         let compared: u64 = self.all().iter().map(|part| part.compared).sum();

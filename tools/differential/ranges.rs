@@ -184,7 +184,7 @@ fn many(rng: &mut Rng, form: Form, link: u8, met: &mut Met) {
 
 // ── The order of refusals ────────────────────────────────────────────────────
 
-/// A tree that a number of 1 to 8 refuses, or one that is accepted.
+/// A tree that a number of 1 to 8 or 15 refuses, or one that is accepted.
 fn tree_of(rng: &mut Rng, number: u32) -> Filter {
     if number == 0 || number == 9 {
         return filter(rng.pick(&LINKS), TCP);
@@ -202,7 +202,8 @@ fn tree_of(rng: &mut Rng, number: u32) -> Filter {
 /// short (9) are among those of each.
 fn orders(rng: &mut Rng, met: &mut Met) {
     const EACH: usize = 20;
-    for (number, set) in (0..10).flat_map(|n| (0..8).map(move |set| (n, set))) {
+    let numbers = (0..10).chain([15]);
+    for (number, set) in numbers.flat_map(|n| (0..8).map(move |set| (n, set))) {
         let all = [NO_CAPTURE, OTHER_LINK, CUT_FRAME].into_iter();
         let faults: Vec<u32> = all.filter(|n| set >> (n - NO_CAPTURE) & 1 == 1).collect();
         for _ in 0..EACH {

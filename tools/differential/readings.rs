@@ -5,7 +5,7 @@ use std::collections::HashSet;
 
 use crate::frames::{self, REACH};
 use crate::machine::{ACCEPTED, BROKEN, DROPPED, SHORT};
-use crate::part::{to_hex, Parts};
+use crate::part::{to_hex, Answers, Parts};
 use crate::trees::{self, edges, Rng};
 use crate::trial::{Seen, Trial};
 use crate::wide::widened;
@@ -13,8 +13,7 @@ use crate::{exports, HEADER, MAX_FRAME, RECORD};
 
 struct Met<'p> {
     parts: &'p mut Parts,
-    /// Accepted trees, and by refusal those that 5 to 8 turn down.
-    trees: [u64; 9],
+    trees: Answers,
     /// Link, kind, direction and protocol of the conditions of accepted trees.
     conditions: HashSet<[u8; 4]>,
     /// Direct readings of files that are refused, or of frames that are too long.
@@ -23,6 +22,8 @@ struct Met<'p> {
     verdicts: [[u64; 2]; 5],
     /// Shorter than n, than n + 64, than 65,535, of 65,535 bytes.
     lengths: [u64; 4],
+    /// Frames that pass a sender test, and that fail by one of its three parts alone.
+    senders: [u64; 4],
     /// Pairs of frames of which one begins with the other, the shorter not short.
     pairs: u64,
 }
@@ -46,6 +47,13 @@ impl Met<'_> {
             _ => 0,
         };
         self.lengths[class] += 1;
+        match frames::sender_test(&tree.file, frame) {
+            Some([true, true, true]) => self.senders[0] += 1,
+            Some([false, true, true]) => self.senders[1] += 1,
+            Some([true, false, true]) => self.senders[2] += 1,
+            Some([true, true, false]) => self.senders[3] += 1,
+            _ => (),
+        }
     }
 
     fn print(&self) {
@@ -55,7 +63,8 @@ impl Met<'_> {
             self.conditions.len(),
             self.refused
         );
-        let by_number: Vec<String> = (5..9).map(|n| format!("{n}: {}", self.trees[n])).collect();
+        let numbers = (5..9).chain([15]);
+        let by_number: Vec<String> = numbers.map(|n| format!("{n}: {}", self.trees[n])).collect();
         println!(
             "readings of refused trees, by number {}",
             by_number.join(", ")
@@ -72,6 +81,9 @@ impl Met<'_> {
         let [below, within, enough, limit] = self.lengths;
         println!("frames of less than n bytes: {below}, than n + 64: {within}, more: {enough}, 65,535: {limit}");
         println!("frames and their extensions: {} pairs", self.pairs);
+        let [pass, high, low, address] = self.senders;
+        print!("sender tests passed: {pass}; failed by the length's high byte alone: {high}, ");
+        println!("by its low byte: {low}, by the address: {address}");
     }
 }
 
@@ -200,11 +212,12 @@ pub fn compare_all(seed: u64, count: u64, parts: &mut Parts) {
     let most = parts.readings.compared + count;
     let mut met = Met {
         parts,
-        trees: [0; 9],
+        trees: Answers::default(),
         conditions: HashSet::new(),
         refused: 0,
         verdicts: [[0; 2]; 5],
         lengths: [0; 4],
+        senders: [0; 4],
         pairs: 0,
     };
     for _ in 0..count / 16 {

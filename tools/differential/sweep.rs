@@ -5,13 +5,13 @@
 //! Directions and links that are not taken in full change with the value and the
 //! seed.
 
-use crate::frames::{self, network, Sketch, REACH};
+use crate::frames::{self, network, Sketch, ETHER_LENGTH, REACH};
 use crate::part::Parts;
 use crate::readings::refused_reading;
 use crate::trees::edges::file_of;
 use crate::trees::systematic::{conditions, with, KINDS_AND_OTHERS, LINKS};
 use crate::trees::{put, record, Record, Rng, ADDRS6, AND, ETHERNET, NOT, OR, PORT_PROTOCOLS};
-use crate::trees::{RAWIP, SLL};
+use crate::trees::{RAWIP, SLL, SOURCE};
 use crate::trial::Trial;
 use crate::RECORD;
 
@@ -92,6 +92,19 @@ fn address_frame(link: u8, r: &Record, bytes: &[u8], turn: usize) -> Vec<u8> {
     sketch.kind(if r[0] % 2 == 1 { 0x0800 } else { 0x86DD });
     sketch.sides(3, source, destination, &inverted(bytes));
     sketch.sides(sides(r[1], turn), source, destination, bytes);
+    // by turns a cooked frame has the whole of what others have at the destination
+    if r[0] == 17 && (r[1] == SOURCE || turn / 8 % 2 == 0) {
+        sketch.sender_length(ETHER_LENGTH);
+    }
+    sketch.frame
+}
+
+/// A sender's address of a length, over TCP.
+fn sender_frame(address: &[u8], length: u16, turn: usize) -> Vec<u8> {
+    let mut sketch = ground(SLL, turn);
+    sketch.transport4(6, 5, [0, 0]);
+    sketch.sides(SOURCE, 6, 0, address);
+    sketch.sender_length(length.to_be_bytes());
     sketch.frame
 }
 
@@ -283,6 +296,46 @@ impl Sweep<'_> {
         self.address_tree(link, r, 8..8 + size, bits);
     }
 
+    /// A half of a sender's address on LinuxSll, the rest as drawn: alone, and negated or
+    /// joined with what tests more.
+    fn sender(&mut self, at: usize, value: u16) {
+        let r = self.drawn_sender(at, value);
+        let bits = [8 * at, 8 * at + 15, self.turn % 48];
+        self.address_tree(SLL, r, 8..14, bits);
+        let records = &around_sender(r)[self.turn % 6];
+        let (turn, address) = (self.turn, &r[8..14]);
+        let frames = [address.to_vec(), flipped(address, bits[2])];
+        let frames = frames.map(|a| address_frame(SLL, &r, &a, turn));
+        self.tree(SLL, records, &frames);
+    }
+
+    fn drawn_sender(&mut self, at: usize, value: u16) -> Record {
+        let mut r = with(17, &[(1, SOURCE)]);
+        for byte in &mut r[8..14] {
+            *byte = self.rng.draw() as u8;
+        }
+        put(&mut r, 8 + at, &value.to_be_bytes());
+        r
+    }
+
+    /// Every length of a sender's address, which itself is the wanted one or just misses it.
+    fn lengths(&mut self, records: &[Record], r: &Record) {
+        self.turn += 1;
+        self.trees += 1;
+        let Some(trial) = Trial::new(&file_of(SLL, records), self.parts) else {
+            return;
+        };
+        let address = &r[8..14];
+        for length in 0..=u16::MAX {
+            let other = flipped(address, length as usize);
+            for bytes in [address, &other] {
+                let frame = sender_frame(bytes, length, self.turn);
+                trial.ask(&frame, self.parts);
+                self.frames += 1;
+            }
+        }
+    }
+
     /// A record with one of its bytes at one value: nearly all are refused with 3.
     fn byte(&mut self, base: Record, at: usize, value: u8) {
         let link = LINKS[self.turn % 3];
@@ -296,6 +349,19 @@ impl Sweep<'_> {
             refused_reading(&file, &[], 256 + number, self.parts);
         }
     }
+}
+
+/// A sender test negated, and joined with what tests more.
+fn around_sender(r: Record) -> [Vec<Record>; 6] {
+    let (tcp, port) = (with(10, &[(2, 5)]), with(15, &[(5, 53)]));
+    [
+        vec![record(NOT), r],
+        vec![record(AND), r, port],
+        vec![record(AND), tcp, r],
+        vec![record(OR), r, port],
+        vec![record(OR), tcp, r],
+        vec![record(OR), record(NOT), r, record(AND), tcp, r],
+    ]
 }
 
 // ── All of them ──────────────────────────────────────────────────────────────
@@ -343,6 +409,17 @@ fn every_half6(sweep: &mut Sweep) {
     }
 }
 
+fn every_sender(sweep: &mut Sweep) {
+    for at in (0..3).map(|i| 2 * i) {
+        (0..=u16::MAX).for_each(|value| sweep.sender(at, value));
+    }
+    let r = sweep.drawn_sender(0, 0);
+    sweep.lengths(&[r], &r);
+    for records in around_sender(r) {
+        sweep.lengths(&records, &r);
+    }
+}
+
 fn every_byte(sweep: &mut Sweep) {
     for kind in KINDS_AND_OTHERS {
         for protocol in [0, 1, 5, 11, 12] {
@@ -365,7 +442,7 @@ fn every_port(sweep: &mut Sweep) {
 /// A field's name, what is taken of it, and how.
 type Field = (&'static str, &'static str, fn(&mut Sweep));
 
-const FIELDS: [Field; 6] = [
+const FIELDS: [Field; 7] = [
     (
         "numbers",
         "protocol numbers, prefixes, small numbers, 256 each",
@@ -381,6 +458,11 @@ const FIELDS: [Field; 6] = [
         "segments",
         "IPv6 and ether addresses by halves",
         every_half6,
+    ),
+    (
+        "senders",
+        "cooked senders by halves, and all 65,536 lengths of their address",
+        every_sender,
     ),
     ("bytes", "every byte of a record, 256 each", every_byte),
     (

@@ -3,7 +3,7 @@
 //!
 //! Few distinct values, so that guards, facts and hoisted tests meet often. Most
 //! files pass checks 1 to 4; about a tenth are damaged. Of the others some hold a
-//! condition that the link or the port cannot take (5, 6, 7), and some have
+//! condition that the link or the port cannot take (5, 6, 7, 15), and some have
 //! jumps of about 255.
 
 #[path = "edges.rs"]
@@ -18,6 +18,8 @@ pub const ETHERNET: u8 = 1;
 pub const RAWIP: u8 = 2;
 pub const SLL: u8 = 3;
 pub const EITHER: u8 = 0;
+pub const SOURCE: u8 = 1;
+pub const DESTINATION: u8 = 2;
 pub const BOTH: u8 = 3;
 const RECORD: usize = 24;
 pub const MOST: usize = 128;
@@ -152,6 +154,8 @@ pub struct Values {
     macs: Vec<u64>,
     masks: Vec<u32>,
     pub prefixes: Vec<u8>,
+    /// Of the ether conditions the sender's alone, which LinuxSll takes.
+    pub senders: bool,
     pool: Vec<Record>,
 }
 
@@ -179,7 +183,17 @@ impl Values {
             macs: rng.some(&MACS, 2),
             masks: rng.some(&MASKS, 2),
             prefixes: rng.some(&PREFIXES, 2),
+            senders: false,
             pool: Vec::new(),
+        }
+    }
+
+    /// Most files of LinuxSll have ether conditions that it takes, half of these whatever
+    /// their flavour.
+    fn keep_to_senders(&mut self, rng: &mut Rng, link: u8) {
+        self.senders = link == SLL && !rng.one_in(8);
+        if self.senders && rng.one_in(2) {
+            self.kinds.push(17);
         }
     }
 
@@ -241,9 +255,17 @@ fn address_leaf(rng: &mut Rng, v: &Values, kind: u8) -> Record {
     r
 }
 
+fn sender_leaf(rng: &mut Rng, v: &Values) -> Record {
+    let mut r = record(17);
+    r[1] = SOURCE;
+    put(&mut r, 8, &rng.pick(&v.macs).to_be_bytes()[2..]);
+    r
+}
+
 pub fn leaf(rng: &mut Rng, v: &Values, kind: u8) -> Record {
     let mut r = record(kind);
     match kind {
+        17 | 19 if v.senders => return sender_leaf(rng, v),
         10 => return protocol_leaf(rng, v),
         15 | 16 => return port_leaf(rng, v, kind),
         11..=14 | 17 => return address_leaf(rng, v, kind),
@@ -263,22 +285,34 @@ fn any_leaf(rng: &mut Rng, v: &Values) -> Record {
     leaf(rng, v, kind)
 }
 
-/// Kinds that RawIp turns down with 5, and with 6 or 7.
+/// Kinds that RawIp turns down with 5, and with 6 or 7; those that LinuxSll takes for the
+/// sender alone, and else turns down with 15.
 const RAW_FIVE: &[u8] = &[10, 10, 12, 14, 18, 22, 24];
 const RAW_OTHER: &[u8] = &[15, 16, 17, 19];
+const PORT_KINDS: &[u8] = &[15, 16];
+const ETHER_KINDS: &[u8] = &[17, 19];
 
-/// A leaf for 6, or on RawIp for 5, 6 or 7.
+fn misfits(link: u8) -> Vec<u8> {
+    match link {
+        RAWIP => [RAW_FIVE, RAW_OTHER].concat(),
+        SLL => [PORT_KINDS, ETHER_KINDS].concat(),
+        _ => PORT_KINDS.to_vec(),
+    }
+}
+
+/// A leaf for 6, or on RawIp for 5, 6 or 7, or on LinuxSll for 6 or 15.
 fn misfit(rng: &mut Rng, link: u8, kinds: Option<&[u8]>) -> Record {
     let mut v = Values::new(rng, ALL);
     v.port_protocols = BAD_PORT_PROTOCOLS.to_vec();
     v.protocols = vec![2, 3, 4, 8, 12];
     v.ethertypes = ETHERTYPES[1..].to_vec();
-    let raw = [RAW_FIVE, RAW_OTHER].concat();
-    let kinds = kinds.unwrap_or(if link == RAWIP { &raw } else { &[15, 16] });
-    let kind = rng.pick(kinds);
+    let kind = rng.pick(kinds.unwrap_or(&misfits(link)));
     let mut r = leaf(rng, &v, kind);
-    if (kind == 15 || kind == 16) && r[2] >= 11 && rng.one_in(2) {
+    if PORT_KINDS.contains(&kind) && r[2] >= 11 && rng.one_in(2) {
         r[3] = rng.pick(&NUMBERS);
+    }
+    if kind == 17 && r[1] == SOURCE && link == SLL {
+        r[1] = rng.pick(&[EITHER, DESTINATION, BOTH]);
     }
     r
 }
@@ -367,13 +401,19 @@ fn link_and_flavour(rng: &mut Rng) -> (u8, Flavour) {
 fn plain_file(rng: &mut Rng) -> (u8, Vec<Record>) {
     let (link, flavour) = link_and_flavour(rng);
     let mut v = Values::new(rng, flavour);
+    v.keep_to_senders(rng, link);
     if rng.one_in(3) {
         v.fill_pool(rng, link);
     }
     let (shape, n) = (Shape::new(rng), size(rng));
     let mut records = Vec::new();
     tree(rng, &v, &shape, n, &mut records);
-    if rng.one_in(if link == RAWIP { 6 } else { 16 }) {
+    let misfits = match link {
+        RAWIP => 6,
+        SLL => 10,
+        _ => 16,
+    };
+    if rng.one_in(misfits) {
         let at = rng.below(records.len());
         if records[at][0] >= 10 {
             records[at] = misfit(rng, link, None);
@@ -382,16 +422,16 @@ fn plain_file(rng: &mut Rng) -> (u8, Vec<Record>) {
     (link, records)
 }
 
-/// RawIp, an or of two conjunctions with misfits: which is met first?
+/// RawIp or LinuxSll, an or of two conjunctions with misfits: which is met first?
 fn clash_file(rng: &mut Rng) -> (u8, Vec<Record>) {
+    let link = rng.pick(&[RAWIP, RAWIP, SLL]);
+    let (often, other) = match link {
+        RAWIP => (RAW_FIVE, RAW_OTHER),
+        _ => (ETHER_KINDS, PORT_KINDS),
+    };
     let mut v = Values::new(rng, V4);
-    let five = misfit(rng, RAWIP, Some(RAW_FIVE));
-    v.pool = vec![
-        five,
-        five,
-        misfit(rng, RAWIP, Some(RAW_OTHER)),
-        any_leaf(rng, &v),
-    ];
+    let one = misfit(rng, link, Some(often));
+    v.pool = vec![one, one, misfit(rng, link, Some(other)), any_leaf(rng, &v)];
     let shape = Shape {
         joins: &[AND],
         nots: 0,
@@ -402,14 +442,15 @@ fn clash_file(rng: &mut Rng) -> (u8, Vec<Record>) {
         let n = rng.pick(&[1, 3, 3]);
         tree(rng, &v, &shape, n, &mut records);
     }
-    (RAWIP, records)
+    (link, records)
 }
 
 // ── Trees whose jumps reach about 255 ────────────────────────────────────────
 
 /// Instructions of a leaf, its kind once known from the facts.
-fn length(r: &Record) -> usize {
+fn length(v: &Values, r: &Record) -> usize {
     let by_direction = match r[0] {
+        17 if v.senders => [0, 6, 0, 0],
         11 => [4, 2, 2, 4],
         12 => [33, 16, 16, 32],
         13 => [6, 3, 3, 6],
@@ -425,7 +466,7 @@ fn chain(rng: &mut Rng, v: &Values, join: u8, kinds: &[u8], target: usize) -> Ve
     while sum < target && 2 * leaves.len() + 1 < MOST - 7 {
         let kind = rng.pick(kinds);
         let next = leaf(rng, v, kind);
-        sum += length(&next) + (join == OR) as usize;
+        sum += length(v, &next) + (join == OR) as usize;
         leaves.push(next);
     }
     in_a_row(rng, join, leaves)
@@ -470,6 +511,7 @@ fn far_file(rng: &mut Rng) -> (u8, Vec<Record>) {
     const FAR_KINDS: [&[u8]; 6] = [&[13], &[11, 13, 13], &[17], &[17, 19], &[12, 19], &[12, 17]];
     let (link, flavour) = link_and_flavour(rng);
     let mut v = Values::new(rng, flavour);
+    v.keep_to_senders(rng, link);
     v.directions = rng.pick(&DIRECTIONS).to_vec();
     let kinds = rng.pick(&FAR_KINDS[..if link == RAWIP { 2 } else { 6 }]);
     let target = rng.between(244, 262);
@@ -492,6 +534,7 @@ const FAMILIES: [&[u8]; 6] = [
 pub fn ladder_file(rng: &mut Rng) -> (u8, Vec<Record>) {
     let link = rng.pick(&[ETHERNET, SLL]);
     let mut v = Values::new(rng, ALL);
+    v.keep_to_senders(rng, link);
     v.directions = vec![EITHER, EITHER, rng.below(4) as u8];
     v.prefixes = vec![127, rng.pick(&PREFIXES)];
     let joins = rng.between(MOST / 4, (MOST - 1) / 2);

@@ -2,10 +2,11 @@
 //! a difference is put down to the first of them that has it.
 
 use crate::bpf::Insn;
+use crate::builds::{self, Answer};
 use crate::frames::{network, REACH};
 use crate::machine::{rust_run, shown, ACCEPTED, DROPPED, SHORT};
 use crate::part::{to_hex, Blame, Parts};
-use crate::{builds, exports, meaning, shrink, vm, Number, INSN};
+use crate::{exports, meaning, shrink, vm, Number, INSN};
 
 /// What both builds made of a tree.
 pub struct Program {
@@ -16,7 +17,7 @@ pub struct Program {
 /// A file that passes checks 1 to 4 and on which the builds agree.
 pub struct Trial {
     pub file: Vec<u8>,
-    /// The program, or the refusal of 5 to 8.
+    /// The program, or the refusal of 5 to 8 or 15.
     pub built: Result<Program, Number>,
     /// How far a frame has to reach so that no read leaves it.
     pub enough: usize,
@@ -34,24 +35,29 @@ type Wrong = Option<(Blame, String)>;
 impl Trial {
     /// Compares the builds; nothing is left to try where they differ.
     pub fn new(file: &[u8], parts: &mut Parts) -> Option<Trial> {
-        parts.builds.compared += 1;
-        let trial = Trial::agreed(file);
-        if trial.is_none() && builds::quick_difference(file, &builds::rust_answer(file)) {
+        let built = crate::build(file);
+        let answer = builds::bytes_of(&built);
+        builds::note(file, &answer, parts);
+        let differ = builds::quick_difference(file, &answer);
+        if differ {
             let text = || builds::least_difference(file);
             parts.builds.differs(file.len(), text);
         }
-        trial
+        builds::hold_second(file, &answer, parts);
+        Trial::of(file, built, answer).filter(|_| !differ)
     }
 
     /// None where the builds differ, or refuse the file with 1 to 4.
     fn agreed(file: &[u8]) -> Option<Trial> {
         let built = crate::build(file);
+        let answer = builds::bytes_of(&built);
+        let differ = builds::quick_difference(file, &answer);
+        Trial::of(file, built, answer).filter(|_| !differ)
+    }
+
+    /// None for a file that 1 to 4 refuse.
+    fn of(file: &[u8], built: Result<Vec<Insn>, Number>, answer: Answer) -> Option<Trial> {
         if let Err(1..=4) = built {
-            return None;
-        }
-        let answer = built.as_ref().map(|insns| builds::bytes_of(insns));
-        let answer = answer.map_err(|n| *n);
-        if builds::quick_difference(file, &answer) {
             return None;
         }
         Some(Trial {

@@ -4,7 +4,8 @@
 // `codegen`, `ast`, `bpf` and `vm` are the published modules, put beside this
 // file by tools/oracle/copies. The modules `error` and `optimizer` below are
 // stand-ins. The tree file and its checks 1 to 4 are no part of the Rust;
-// they are written here from document 01.
+// they are written here from document 01. Cooked trees are not the Rust's any
+// more; `second` answers for them.
 
 use std::net::{IpAddr, Ipv4Addr, Ipv6Addr};
 use std::ops::Range;
@@ -19,6 +20,7 @@ mod ast;
 mod bpf;
 #[allow(dead_code)]
 mod codegen;
+mod second;
 #[allow(dead_code)]
 mod vm;
 
@@ -36,6 +38,7 @@ mod optimizer {
 }
 
 const HEADER: usize = 8;
+const LINK: usize = 5;
 const RECORD: usize = 24;
 const INSN: usize = 8;
 const MAX_RECORDS: usize = 128;
@@ -52,7 +55,7 @@ fn link_of(file: &[u8]) -> Result<LinkType, Number> {
     if file.len() < HEADER || file[..5] != *b"PFT\x00\x01" {
         return Err(1);
     }
-    match file[5] {
+    match file[LINK] {
         1 => Ok(LinkType::Ethernet),
         2 => Ok(LinkType::RawIp),
         3 => Ok(LinkType::LinuxSll),
@@ -300,13 +303,28 @@ fn number_of(message: &str) -> Number {
     }
 }
 
-/// The instructions for a tree file, or the number that turns it down.
-fn build(file: &[u8]) -> Result<Vec<Insn>, Number> {
-    let (link, records) = check(file)?;
+/// What the unchanged Rust makes of records that checks 1 to 4 let through.
+fn rust_program(link: LinkType, records: Vec<&[u8]>) -> Result<Vec<Insn>, Number> {
     match codegen::compile(&tree(&mut records.into_iter()), link) {
         Ok(program) => Ok(program.instructions().to_vec()),
         Err(error::Error::CodegenError { message }) => Err(number_of(&message)),
     }
+}
+
+/// T-03: ether addresses on LinuxSll are not what the Rust makes of them.
+fn is_cooked(link: LinkType, records: &[&[u8]]) -> bool {
+    const ETHER_ADDRESSES: [u8; 2] = [17, 19];
+    link == LinkType::LinuxSll && records.iter().any(|r| ETHER_ADDRESSES.contains(&r[0]))
+}
+
+/// The instructions for a tree file, or the number that turns it down: by the Rust, but for
+/// cooked trees.
+fn build(file: &[u8]) -> Result<Vec<Insn>, Number> {
+    let (link, records) = check(file)?;
+    if is_cooked(link, &records) {
+        return second::program(file[LINK], &records);
+    }
+    rust_program(link, records)
 }
 
 fn insn(b: &[u8]) -> Insn {

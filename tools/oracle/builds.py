@@ -1,5 +1,6 @@
 #!/usr/bin/env python3
-"""Stored builds for crates/build_replay: tree files, and what the Rust answers.
+"""Stored builds for crates/build_replay: tree files, and what the Rust answers, or the
+second generator of cooked trees.
 
 tools/oracle/builds.py SEED [DIR]     writes DIR/stdin and DIR/stdout
 tools/oracle/builds.py --show [DIR]   prints the cases of DIR/stdin as text
@@ -22,6 +23,7 @@ HERE = pathlib.Path(__file__).resolve().parent
 sys.path.insert(0, str(HERE.parent / "definitions"))
 import inputs
 import trees
+from inputs import tree_file
 from trees import AND, BOTH, DESTINATION, EITHER, ETHERNET, NOT, OR, RAWIP, RECORD, SLL, SOURCE
 from trees import Rng, half, header, record
 from words import stop, stored
@@ -35,8 +37,9 @@ HEAD = ">BHH"
 MOST_FILE = 4096
 WHOLE = 32768
 JA = 0x05
+COOKED_ADDRESS = 15
 
-# A tree file with the Rust's answer: a refusal's number or 0, and the program.
+# A tree file with the answer: a refusal's number or 0, and the program.
 Case = collections.namedtuple("Case", "file refusal program")
 
 
@@ -57,10 +60,6 @@ def case_of(file, first, second):
     program = bytes.fromhex(second)
     assert len(program) == 8 * int(first)
     return Case(file, 0, program)
-
-
-def tree_file(link, records):
-    return header(link, len(records)) + b"".join(records)
 
 
 def records_of(file):
@@ -159,12 +158,19 @@ OTHERS = [
     [record(19)],
     [record(24, small=6)],
 ]
+# On LinuxSll the sender's address is taken, the other two are not.
+COOKED = [
+    [address(17, SOURCE, trees.MACS[0])],
+    [address(17, EITHER, trees.MACS[0])],
+    [record(19)],
+]
 
 
 def pair_files():
-    """All of both on Ethernet; those of IPv4 on RawIp and LinuxSll too."""
+    """All of both on Ethernet; those of IPv4 on RawIp and LinuxSll too, there with cooked
+    ones."""
     made = []
-    for link, some in ((ETHERNET, FOUR + OTHERS), (RAWIP, FOUR), (SLL, FOUR)):
+    for link, some in ((ETHERNET, FOUR + OTHERS), (RAWIP, FOUR), (SLL, FOUR + COOKED)):
         for join, left, right in itertools.product((AND, OR), some, some):
             made.append(tree_file(link, [record(join)] + left + right))
     return made
@@ -178,7 +184,7 @@ def port_cases(rng):
 
 
 def small_file(rng):
-    """Not damaged; one in twelve has several of 5 to 7 waiting."""
+    """Not damaged; one in twelve has several of 5 to 7, or of 6 and 15, waiting."""
     maker = trees.clash_file if rng.one_in(12) else trees.plain_file
     return tree_file(*maker(rng, trees.SMALL))
 
@@ -190,16 +196,12 @@ def random_cases(rng):
 # ── Jumps of 255 and 256 ─────────────────────────────────────────────────────
 
 
-def on_link(file, link):
-    return trees.put(file, 5, bytes([link]))
-
-
 def far_cases(rng):
     """Of trees that grow by one instruction the last three with a count and the
     first three that are refused, and some drawn."""
     kept = []
     for link, grower in itertools.product((ETHERNET, SLL), inputs.SHAPES):
-        cases = ask([on_link(file, link) for file in inputs.growing(grower)])
+        cases = ask(inputs.growing(grower, link))
         at = [case.refusal for case in cases].index(8)
         kept += cases[at - 3 : at + 3]
     drawn = ask([tree_file(*trees.far_file(rng, trees.MOST)) for _ in range(400)])
@@ -308,8 +310,8 @@ def check_coverage(groups):
     answers = collections.Counter(case.refusal for case in cases)
     records = max(len(records_of(case.file)) for case in cases if not case.refusal)
     found = sorted(answers), farthest(cases), len(accepted_conditions(cases)), records
-    # tools/differential/README.md: there are 193 conditions that can be accepted
-    wanted = list(range(9)), (255, 255, 255), 193, trees.MOST
+    # tools/differential/README.md: there are 189 conditions that can be accepted
+    wanted = [*range(9), COOKED_ADDRESS], (255, 255, 255), 189, trees.MOST
     if found != wanted:
         stop(f"covered are {found}, not {wanted}")
 
@@ -335,7 +337,8 @@ def report(groups):
     builds = collections.Counter(5 * [case.refusal for cases in groups.values() for case in cases])
     builds[9] = builds[0] // 5 * 2
     builds[0] -= builds[9]
-    lines += [f"counts: {builds[0]}"] + [f"refused {number}: {builds[number]}" for number in range(1, 10)]
+    lines += [f"counts: {builds[0]}"]
+    lines += [f"refused {number}: {builds[number]}" for number in (*range(1, 10), COOKED_ADDRESS)]
     return "\n".join(lines) + f"\n{builds.total()} compared, 0 differences\n"
 
 

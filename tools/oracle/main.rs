@@ -25,9 +25,24 @@ fn to_hex(bytes: impl Iterator<Item = u8>) -> String {
     bytes.map(|b| format!("{b:02x}")).collect()
 }
 
-/// One answer of `build`: COUNT and the program's bytes, or the refusal.
-fn build_line(line: &str) -> String {
-    match build(&from_hex(line)) {
+/// How a command answers for a tree file.
+type Builder = fn(&[u8]) -> Result<Vec<Insn>, Number>;
+
+/// Any tree by the unchanged Rust, cooked ones too.
+fn rust(file: &[u8]) -> Result<Vec<Insn>, Number> {
+    let (link, records) = check(file)?;
+    rust_program(link, records)
+}
+
+/// Any tree by the second generator.
+fn second(file: &[u8]) -> Result<Vec<Insn>, Number> {
+    let (_, records) = check(file)?;
+    second::program(file[LINK], &records)
+}
+
+/// One answer for a tree file: COUNT and the program's bytes, or the refusal.
+fn built_line(line: &str, builder: Builder) -> String {
+    match builder(&from_hex(line)) {
         Ok(insns) => {
             let bytes = insns.iter().flat_map(|i| i.to_le_bytes());
             format!("{} {}", insns.len(), to_hex(bytes))
@@ -78,13 +93,15 @@ fn list_stdin() -> io::Result<()> {
     io::stdout().write_all(listing(&file).as_bytes())
 }
 
-const USAGE: &str = "usage: oracle build | run | listing";
+const USAGE: &str = "usage: oracle build | rust | second | run | listing";
 
 fn main() {
     let words: Vec<String> = std::env::args().skip(1).collect();
     let words: Vec<&str> = words.iter().map(String::as_str).collect();
     let done = match words[..] {
-        ["build"] => each_line(build_line),
+        ["build"] => each_line(|line| built_line(line, build)),
+        ["rust"] => each_line(|line| built_line(line, rust)),
+        ["second"] => each_line(|line| built_line(line, second)),
         ["run"] => each_line(run_line),
         ["listing"] => list_stdin(),
         ["--help"] => writeln!(io::stdout(), "{USAGE}"),

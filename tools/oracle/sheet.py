@@ -1,5 +1,6 @@
 #!/usr/bin/env python3
-"""Asks the oracle every line of document 01's commissioning sheet.
+"""Asks the oracle every line of document 01's commissioning sheet, and what T-03 says of
+cooked trees.
 
 tools/oracle/sheet.py [ORACLE]     (target/oracle/oracle when left out)
 
@@ -12,7 +13,7 @@ import subprocess
 import sys
 
 sys.dont_write_bytecode = True
-from trees import AND, BOTH, DESTINATION, EITHER, ETHERNET, NOT, OR, RAWIP, SOURCE
+from trees import AND, BOTH, DESTINATION, EITHER, ETHERNET, NOT, OR, RAWIP, SLL, SOURCE
 from trees import half, header, record
 from words import Words, run as run_command, stop
 
@@ -38,6 +39,10 @@ def join(kind, left, right):
 def from_left(leaves):
     """Leaves joined by and, the first two innermost."""
     return [record(AND)] * (len(leaves) - 1) + leaves
+
+
+def ether_host(direction):
+    return [record(17, direction, address=bytes(range(6)))]
 
 
 def host6(direction):
@@ -122,12 +127,35 @@ def lines(oracle):
     yield "The last host with either: 8", build(oracle, ETHERNET, far(EITHER)) == "refused 8"
 
 
+def cooked_lines(oracle):
+    """T-03, as pairs of words and outcome."""
+    multicast, bad_port = [record(19)], port(53, EITHER, ICMP)
+    cooked = lambda records: build(oracle, SLL, records)
+    p = cooked(ether_host(SOURCE))
+    length = [(40, 0, 0, 4), (21, 0, 5, 6)]
+    yield "LinuxSll, ether source: eight, the length at 4 first", len(p) == 8 and p[:2] == length
+    yield "  then the address at 6", column(p, "k", 2, 3, 4, 5) == [6, 0x00010203, 10, 0x0405]
+    yield "  jf 5, 3, 1 at 1, 3, 5", column(p, "jf", 1, 3, 5) == [5, 3, 1]
+    header = bytes(4) + b"\0\6" + bytes(range(6)) + bytes(4)
+    yield "  on a sender of six bytes: accepted", run(oracle, p, header) == "accepted"
+    other = header[:5] + b"\10" + header[6:]
+    yield "  on one of eight: dropped", run(oracle, p, other) == "dropped"
+    for words, direction in (("either", EITHER), ("destination", DESTINATION), ("both", BOTH)):
+        yield f"LinuxSll, ether host, {words}: 15", cooked(ether_host(direction)) == "refused 15"
+    yield "LinuxSll, ether multicast: 15", cooked(multicast) == "refused 15"
+    first, last = join(AND, bad_port, multicast), join(OR, multicast, bad_port)
+    yield "LinuxSll, port with Icmp and ether multicast: 6", cooked(first) == "refused 6"
+    yield "LinuxSll, ether multicast or port with Icmp: 15", cooked(last) == "refused 15"
+    p = build(oracle, ETHERNET, ether_host(SOURCE))
+    yield "Ethernet, ether source: six, no length", len(p) == 6 and p[0] == (32, 0, 0, 6)
+
+
 def main():
     parser = Words(__doc__)
     parser.add_argument("oracle", metavar="ORACLE", nargs="?", default=str(DEFAULT))
     oracle = parser.parse_args().oracle
     wrong = 0
-    for words, good in lines(oracle):
+    for words, good in [*lines(oracle), *cooked_lines(oracle)]:
         print("ok  " if good else "BAD ", words)
         wrong += not good
     return 1 if wrong else 0

@@ -5,7 +5,7 @@ tools/oracle/trees.py SEED COUNT [--max-records N] [--small]
 
 Few distinct values, so that guards, facts and hoisted tests meet often. Most
 files pass checks 1 to 4; about a tenth are damaged. Of the others some hold a
-condition that the link or the port cannot take (5, 6, 7), and some have
+condition that the link or the port cannot take (5, 6, 7, 15), and some have
 jumps of about 255. --small keeps to nine records.
 """
 import sys
@@ -114,7 +114,15 @@ class Values:
         self.macs = rng.some(MACS, 2)
         self.masks = rng.some(MASKS, 2)
         self.prefixes = rng.some(PREFIXES, 2)
+        self.senders = False
         self.pool = []
+
+    def keep_to_senders(self, rng, link):
+        """Most files of LinuxSll have of the ether conditions the sender's alone, which
+        the link takes; half of these whatever their flavour."""
+        self.senders = link == SLL and not rng.one_in(8)
+        if self.senders and rng.one_in(2):
+            self.kinds = self.kinds + [17]
 
     def fill_pool(self, rng, link):
         """From now on every leaf is one of a few, at times a misfit."""
@@ -159,6 +167,8 @@ def leaf(rng, v, kind=None):
     if v.pool and not kind:
         return rng.pick(v.pool)
     kind = kind or rng.pick(v.kinds)
+    if v.senders and kind in ETHER:
+        return record(17, SOURCE, address=bytes.fromhex(rng.pick(v.macs)))
     if kind == 10:
         return protocol_leaf(rng, v)
     if kind in (15, 16):
@@ -172,21 +182,26 @@ def leaf(rng, v, kind=None):
     return record(kind)
 
 
-# Kinds that RawIp turns down with 5, and with 6 or 7.
+# Kinds that RawIp turns down with 5, and with 6 or 7; those that LinuxSll takes for the
+# sender alone, and else turns down with 15.
 RAW_FIVE = [10, 10, 12, 14, 18, 22, 24]
 RAW_OTHER = [15, 16, 17, 19]
+PORT_KINDS = [15, 16]
+ETHER = [17, 19]
+MISFITS = {ETHERNET: PORT_KINDS, RAWIP: RAW_FIVE + RAW_OTHER, SLL: PORT_KINDS + ETHER}
 
 
 def misfit(rng, link, kinds=None):
-    """A leaf for 6, or on RawIp for 5, 6 or 7."""
+    """A leaf for 6, or on RawIp for 5, 6 or 7, or on LinuxSll for 6 or 15."""
     v = Values(rng, "all")
     v.port_protocols = BAD_PORT_PROTOCOLS
     v.protocols = [2, 3, 4, 8, 12]
     v.ethertypes = ETHERTYPES[1:]
-    kinds = kinds or (RAW_FIVE + RAW_OTHER if link == RAWIP else [15, 16])
-    r = leaf(rng, v, rng.pick(kinds))
-    if r[0] in (15, 16) and r[2] >= 11 and rng.one_in(2):
-        r = r[:3] + bytes([rng.pick(NUMBERS)]) + r[4:]
+    r = leaf(rng, v, rng.pick(kinds or MISFITS[link]))
+    if r[0] in PORT_KINDS and r[2] >= 11 and rng.one_in(2):
+        r = put(r, 3, bytes([rng.pick(NUMBERS)]))
+    if r[0] == 17 and r[1] == SOURCE and link == SLL:
+        r = put(r, 1, bytes([rng.pick([EITHER, DESTINATION, BOTH])]))
     return r
 
 
@@ -243,10 +258,11 @@ def link_and_flavour(rng):
 def plain_file(rng, most):
     link, flavour = link_and_flavour(rng)
     v = Values(rng, flavour)
+    v.keep_to_senders(rng, link)
     if rng.one_in(3):
         v.fill_pool(rng, link)
     records = tree(rng, v, Shape(rng), size(rng, most))
-    if rng.one_in(6 if link == RAWIP else 16):
+    if rng.one_in({RAWIP: 6, SLL: 10}.get(link, 16)):
         at = rng.below(len(records))
         if records[at][0] >= 10:
             records[at] = misfit(rng, link)
@@ -254,14 +270,16 @@ def plain_file(rng, most):
 
 
 def clash_file(rng, most):
-    """RawIp, an or of two conjunctions with misfits: which is met first?"""
+    """RawIp or LinuxSll, an or of two conjunctions with misfits: which is met first?"""
+    link = rng.pick([RAWIP, RAWIP, SLL])
+    often, other = (RAW_FIVE, RAW_OTHER) if link == RAWIP else (ETHER, PORT_KINDS)
     v = Values(rng, "v4")
-    five = misfit(rng, RAWIP, RAW_FIVE)
-    v.pool = [five, five, misfit(rng, RAWIP, RAW_OTHER), leaf(rng, v)]
+    one = misfit(rng, link, often)
+    v.pool = [one, one, misfit(rng, link, other), leaf(rng, v)]
     shape = Shape(rng)
     shape.joins, shape.nots = [AND], 0
     sides = [tree(rng, v, shape, rng.pick([1, 3, 3])) for _ in range(2)]
-    return RAWIP, [record(OR)] + sides[0] + sides[1]
+    return link, [record(OR)] + sides[0] + sides[1]
 
 
 # ── Trees whose jumps reach about 255 ────────────────────────────────────────
@@ -274,15 +292,19 @@ LENGTHS = {
     17: (9, 4, 4, 8),
     19: (2,),
 }
+SENDER_LENGTH = 6
+
+
+def length(v, r):
+    return SENDER_LENGTH if v.senders and r[0] == 17 else LENGTHS[r[0]][r[1]]
 
 
 def chain(rng, v, join, kinds, target, most):
     """Leaves joined from the left or the right, target instructions or a bit more."""
-    leaves, length = [], 0
-    while length < target and 2 * len(leaves) + 1 < most:
-        kind = rng.pick(kinds)
-        leaves.append(leaf(rng, v, kind))
-        length += LENGTHS[kind][leaves[-1][1]] + (join == OR)
+    leaves, total = [], 0
+    while total < target and 2 * len(leaves) + 1 < most:
+        leaves.append(leaf(rng, v, rng.pick(kinds)))
+        total += length(v, leaves[-1]) + (join == OR)
     if rng.one_in(2):
         return [record(join)] * (len(leaves) - 1) + leaves
     joined = [r for l in leaves[:-1] for r in (record(join), l)]
@@ -310,6 +332,7 @@ def wrap(rng, v, link, records):
 def far_file(rng, most):
     link, flavour = link_and_flavour(rng)
     v = Values(rng, flavour)
+    v.keep_to_senders(rng, link)
     v.directions = rng.pick([[EITHER], [BOTH], [EITHER, BOTH], list(range(4))])
     raw_kinds = [[13], [11, 13, 13]]
     kinds = rng.pick(raw_kinds if link == RAWIP else raw_kinds + [[17], [17, 19], [12, 19], [12, 17]])
@@ -326,6 +349,7 @@ def ladder_file(rng, most):
     """And and or in turn, from the left: short jumps, a long program."""
     link = rng.pick([ETHERNET, SLL])
     v = Values(rng, "all")
+    v.keep_to_senders(rng, link)
     v.directions = [EITHER, EITHER, rng.below(4)]
     v.prefixes = [127, rng.pick(PREFIXES)]
     joins = rng.between(most // 4, (most - 1) // 2)

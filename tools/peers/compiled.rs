@@ -238,7 +238,7 @@ impl<'a> Compiled<'a> {
 
     fn tree(&mut self, link: u8, mut tree: Tree, drawn: &[&[u8]]) {
         let said = match self.spoils {
-            true => values::altered(&mut self.rng, &tree),
+            true => values::altered(&mut self.rng, link, &tree),
             false => tree.clone(),
         };
         match Judge::new(&self.compiler, link, &tree, &said) {

@@ -9,6 +9,10 @@ const RECORD: usize = 24;
 const WHOLE: usize = 160;
 /// Beyond these the frame is filled with zeros.
 const LONG: [usize; 5] = [1_514, 4_096, 9_000, 32_768, 65_535];
+const SLL: u8 = 3;
+/// How long the sender's address is by a cooked header: mostly six bytes.
+const LENGTHS: [u16; 8] = [6, 6, 6, 6, 6, 6, 8, 0];
+const LENGTH_PLACE: usize = 4;
 
 pub struct Maker<'a> {
     tree: &'a [u8],
@@ -67,7 +71,7 @@ impl Maker<'_> {
             11 | 13 => self.addresses(rng, frame, 0x0800, [n + 12, n + 16], &r[8..12], r[1]),
             12 | 14 => self.addresses(rng, frame, 0x86dd, [n + 8, n + 24], &r[8..24], r[1]),
             15 | 16 => self.ports(rng, frame, r),
-            17 => at_sides(rng, frame, [6, 0], &r[8..14], r[1]),
+            17 => self.ether_host(rng, frame, r),
             18 => self.kind(frame, u16::from_be_bytes([r[4], r[5]])),
             19 => frame[0] |= 1,
             20 => self.addresses(rng, frame, 0x0800, [n + 12, n + 16], &[0xff; 4], 2),
@@ -118,6 +122,13 @@ impl Maker<'_> {
     ) {
         self.kind(frame, kind);
         at_sides(rng, frame, sides, bytes, direction);
+    }
+
+    fn ether_host(&self, rng: &mut Rng, frame: &mut [u8], r: &[u8]) {
+        at_sides(rng, frame, [6, 0], &r[8..14], r[1]);
+        if self.tree[5] == SLL {
+            put(frame, LENGTH_PLACE, &rng.pick(&LENGTHS).to_be_bytes());
+        }
     }
 
     fn ports(&self, rng: &mut Rng, frame: &mut [u8], r: &[u8]) {

@@ -10,8 +10,8 @@ const ETHERNET: u8 = 1;
 const RAWIP: u8 = 2;
 const SLL: u8 = 3;
 const FOLDERS: [(&str, u8); 3] = [("ethernet", 1), ("rawip", 2), ("linuxsll", 3)];
-/// A cooked header before its protocol: to us, Ethernet, an address of six bytes.
-const COOKED: [u8; 14] = [0, 0, 0, 1, 0, 6, 2, 0, 0, 0, 0, 1, 0, 0];
+/// How long the sender's address is by the cooked headers that frames are given, in turn.
+const LENGTHS: [u16; 10] = [6, 6, 8, 6, 6, 0, 6, 4, 6, 0x0106];
 /// Of so many frames that are not IPv4 one is taken as RawIp.
 const OTHERS: usize = 8;
 /// Of captures in a folder.
@@ -60,7 +60,8 @@ impl Pool {
             if kind == [8, 0] || self.of(ETHERNET).len() % OTHERS == 0 {
                 self.push(RAWIP, packet.to_vec());
             }
-            self.push(SLL, [&COOKED, kind, packet].concat());
+            let length = LENGTHS[self.of(SLL).len() % LENGTHS.len()];
+            self.push(SLL, cooked(&frame, length));
         }
         self.push(link, frame);
     }
@@ -104,6 +105,14 @@ impl Pool {
             self.captures, self.other_links, self.unreadable
         );
     }
+}
+
+/// A frame of Ethernet with a cooked header: to us, from Ethernet, the sender's address and how long
+/// it is, of eight bytes the last two zero, and the ethertype.
+fn cooked(frame: &[u8], length: u16) -> Vec<u8> {
+    let (start, length) = ([0, 0, 0, 1], length.to_be_bytes());
+    let (sender, rest) = (&frame[6..12], &frame[12..]);
+    [&start, &length[..], sender, &[0, 0], rest].concat()
 }
 
 /// A capture, or the captures of a folder.

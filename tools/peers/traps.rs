@@ -15,6 +15,9 @@ const AUTHENTICATION: u8 = 51;
 const NEXT_HEADERS: [u8; 3] = [44, 0, 60];
 /// Where ARP has the addresses of sender and target.
 const ARP_SIDES: [usize; 2] = [14, 24];
+const SLL: u8 = 3;
+/// Lengths that a cooked header's address may have besides six, some with a byte of that value.
+const OTHER_LENGTHS: [u16; 7] = [0, 4, 5, 7, 8, 0x0106, 0x0600];
 
 struct Trap {
     frame: Vec<u8>,
@@ -94,6 +97,13 @@ impl Trap {
             _ => self.put(0, &snap),
         }
     }
+
+    /// A sender whose address begins so and has another length (D-18).
+    fn sender(&mut self, rng: &mut Rng, address: &[u8]) {
+        let length = rng.pick(&OTHER_LENGTHS).to_be_bytes();
+        self.frame[4..6].copy_from_slice(&length);
+        self.frame[6..12].copy_from_slice(address);
+    }
 }
 
 /// The number of an IPv4 protocol or IPv6 next header that a protocol byte names.
@@ -117,6 +127,7 @@ pub fn trap(rng: &mut Rng, link: u8, r: &Record) -> Vec<u8> {
         10 | 23 | 24 => trap.number(rng, number(r)),
         11 | 13 => trap.arp(&r[8..12]),
         15 | 16 => trap.port(rng, &r[4..6]),
+        17 if link == SLL => trap.sender(rng, &r[8..14]),
         18 => trap.ether_type(rng, &r[4..6]),
         _ => {
             trap.kind(IP);

@@ -4,6 +4,7 @@ use crate::tree::{record, Leaf, Record, Tree, AND, OR};
 use crate::trees::Rng;
 
 const RAWIP: u8 = 2;
+const SLL: u8 = 3;
 /// Values besides those that are found.
 const ETHERTYPES: [u16; 4] = [0x0800, 0x86dd, 0x0806, 0x0000];
 const NUMBERS: [u8; 5] = [6, 17, 132, 44, 0];
@@ -20,18 +21,30 @@ const MASKS: [u32; 6] = [
     0xff00_00ff,
 ];
 const PREFIXES: [u8; 8] = [64, 32, 128, 0, 16, 127, 129, 255];
-/// Kinds that RawIp takes, and all.
+/// Kinds that RawIp takes, that LinuxSll takes, and all.
 const RAW_KINDS: &[u8] = &[10, 11, 13, 15, 16, 18, 20, 21, 23];
+const SLL_KINDS: &[u8] = &[10, 11, 12, 13, 14, 15, 16, 17, 18, 20, 21, 22, 23, 24];
 const ALL_KINDS: &[u8] = &[10, 11, 12, 13, 14, 15, 16, 17, 18, 19, 20, 21, 22, 23, 24];
 const RAW_PROTOCOLS: &[u8] = &[1, 5, 6, 7, 9, 10, 11];
 const ALL_PROTOCOLS: &[u8] = &[1, 2, 3, 4, 5, 6, 7, 8, 9, 10, 11, 12];
 const PORT_PROTOCOLS: [u8; 4] = [0, 5, 6, 10];
+const ETHER_HOST: u8 = 17;
+/// The one direction of an ether host that LinuxSll takes.
+const SOURCE: u8 = 1;
 
 // ── What is found ────────────────────────────────────────────────────────────
 
 /// Where the network header starts.
 pub fn network(link: u8) -> usize {
     [14, 0, 16][link as usize - 1]
+}
+
+/// Where a frame has ether addresses: a cooked one has the sender's.
+fn mac_places(link: u8) -> &'static [usize] {
+    match link {
+        SLL => &[6],
+        _ => &[0, 6],
+    }
 }
 
 fn part<const N: usize>(frame: &[u8], at: usize) -> Option<[u8; N]> {
@@ -73,7 +86,7 @@ impl Values {
     fn find(&mut self, link: u8, frame: &[u8]) {
         let n = network(link);
         if link != RAWIP {
-            let macs = [0, 6].into_iter().filter_map(|at| part(frame, at));
+            let macs = mac_places(link).iter().filter_map(|&at| part(frame, at));
             self.macs.extend(macs);
             let kind = part(frame, n - 2).map(u16::from_be_bytes);
             self.ethertypes.extend(kind);
@@ -179,19 +192,25 @@ impl Values {
 
     /// A condition that the build takes on its link.
     pub fn leaf(&self, rng: &mut Rng, link: u8) -> Leaf {
-        let kinds = if link == RAWIP { RAW_KINDS } else { ALL_KINDS };
+        let kinds = match link {
+            RAWIP => RAW_KINDS,
+            SLL => SLL_KINDS,
+            _ => ALL_KINDS,
+        };
         let mut r = record(rng.pick(kinds));
         match r[0] {
             10 => self.put_protocol(rng, link, &mut r),
             11 | 13 => self.put_net4(rng, &mut r),
             12 | 14 => self.put_net6(rng, &mut r),
             15 | 16 => self.put_ports(rng, &mut r),
-            17 => r[8..14].copy_from_slice(&rng.pick(&self.macs)),
+            ETHER_HOST => r[8..14].copy_from_slice(&rng.pick(&self.macs)),
             18 => self.put_ethertype(rng, link, &mut r),
             23 | 24 => r[3] = self.small(rng),
             _ => (),
         }
-        if matches!(r[0], 11..=17) {
+        if one_sided(link, &r) {
+            r[1] = SOURCE;
+        } else if matches!(r[0], 11..=17) {
             r[1] = rng.below(4) as u8;
         }
         Leaf {
@@ -199,6 +218,11 @@ impl Values {
             by_bytes: rng.below(3) == 0,
         }
     }
+}
+
+/// Whether a condition asks for an address that has no other side: the sender's of cooked frames.
+fn one_sided(link: u8, r: &Record) -> bool {
+    link == SLL && r[0] == ETHER_HOST
 }
 
 // ── Trees ────────────────────────────────────────────────────────────────────
@@ -234,20 +258,20 @@ fn last_byte(r: &Record) -> Option<usize> {
         11 | 13 => Some(11),
         12 | 14 => Some(23),
         15 | 16 | 18 => Some(5),
-        17 => Some(13),
+        ETHER_HOST => Some(13),
         23 | 24 => Some(3),
         _ => None,
     }
 }
 
 /// The tree with the lowest bit of one value changed, or one direction, or a not more.
-pub fn altered(rng: &mut Rng, tree: &Tree) -> Tree {
+pub fn altered(rng: &mut Rng, link: u8, tree: &Tree) -> Tree {
     let mut other = tree.clone();
     let mut leaves = other.leaves();
     let at = rng.below(leaves.len());
     let r = &mut leaves[at].record;
     match (last_byte(r), r[1]) {
-        (Some(_), side @ 1..=2) if rng.below(2) == 0 => r[1] = 3 - side,
+        (Some(_), side @ 1..=2) if !one_sided(link, r) && rng.below(2) == 0 => r[1] = 3 - side,
         (Some(place), _) => r[place] ^= 1,
         (None, _) => return Tree::Not(Box::new(other)),
     }

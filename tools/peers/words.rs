@@ -10,6 +10,7 @@ use crate::tree::Leaf;
 
 const ETHERNET: u8 = 1;
 const RAWIP: u8 = 2;
+const SLL: u8 = 3;
 const IP: u16 = 0x0800;
 const IP6: u16 = 0x86dd;
 /// AppleTalk and its ARP, which libpcap looks for in SNAP too.
@@ -30,10 +31,11 @@ pub fn condition(link: u8, leaf: &Leaf) -> String {
         14 => net6(r, r[3].min(128), bytes),
         15 => ports(r, half(&r[4..]), half(&r[4..]), bytes),
         16 => ports(r, half(&r[4..]), half(&r[6..]), bytes),
-        17 => ether_host(link, r, bytes),
+        17 if link == SLL => sender(r),
+        17 => ether_host(r, bytes),
         18 => ether_type(link, half(&r[4..]), bytes),
-        19 if link == ETHERNET && !bytes => "ether multicast".into(),
-        19 => "ether[0] & 1 != 0".into(),
+        19 if bytes => "ether[0] & 1 != 0".into(),
+        19 => "ether multicast".into(),
         20 if bytes => "ip[16:4] = 0xffffffff".into(),
         20 => "ip dst host 255.255.255.255".into(),
         21 if bytes => "(ip multicast and ip[16] < 240)".into(),
@@ -159,21 +161,24 @@ fn four_words(net: bool, at: usize, address: u128, mask: u128) -> String {
     format!("({})", [0, 1, 2, 3].map(test).join(" and "))
 }
 
-/// libpcap has no `ether host` for cooked frames (D-18).
-fn ether_host(link: u8, r: &[u8], bytes: bool) -> String {
-    let m = &r[8..14];
-    if bytes || link != ETHERNET {
-        let (front, back) = (word(m), half(&m[4..]));
-        let test = |at: usize| {
-            format!(
-                "(ether[{at}:4] = {front:#010x} and ether[{}:2] = {back:#06x})",
-                at + 4
-            )
-        };
-        return by_direction(r[1], [6, 0].map(test));
+fn ether_host(r: &[u8], bytes: bool) -> String {
+    if bytes {
+        return by_direction(r[1], [6, 0].map(|at| ether_bytes(r, at)));
     }
-    let address: Vec<String> = m.iter().map(|b| format!("{b:02x}")).collect();
+    let address: Vec<String> = r[8..14].iter().map(|b| format!("{b:02x}")).collect();
     format!("ether {} host {}", qualifier(r[1]), address.join(":"))
+}
+
+/// The source of cooked frames, for which libpcap has no word; they have no other address (D-18).
+fn sender(r: &[u8]) -> String {
+    format!("(ether[4:2] = 6 and {})", ether_bytes(r, 6))
+}
+
+/// An ether address at a place of the frame.
+fn ether_bytes(r: &[u8], at: usize) -> String {
+    let (front, back) = (word(&r[8..]), half(&r[12..]));
+    let rest = at + 4;
+    format!("(ether[{at}:4] = {front:#010x} and ether[{rest}:2] = {back:#06x})")
 }
 
 // ── Ports ────────────────────────────────────────────────────────────────────
