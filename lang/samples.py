@@ -8,8 +8,8 @@ Needs nothing but python3.
 import pathlib
 import sys
 
-ETHERNET, RAW_IP = 1, 2
-AND, PROTOCOL, PORT = 1, 10, 15
+ETHERNET, RAW_IP, LINUX_SLL = 1, 2, 3
+AND, PROTOCOL, PORT, ETHER_MULTICAST = 1, 10, 15, 19
 DESTINATION = 2
 IP6, TCP = 2, 5
 UDP_NUMBER, TCP_NUMBER = 17, 6
@@ -57,6 +57,7 @@ DAY = [WEB, SSH, WEB[:36], b"", LONGEST, WEB]
 FILES = {
     "web.pft": tree(ETHERNET, record(AND), record(PROTOCOL, protocol=TCP), record(PORT, DESTINATION, TCP, 80)),
     "raw6.pft": tree(RAW_IP, record(PROTOCOL, protocol=IP6)),
+    "cooked.pft": tree(LINUX_SLL, record(ETHER_MULTICAST)),
     "web.frame": WEB,
     "ssh.frame": SSH,
     "dns.frame": ethernet(0x0800, ipv4(UDP_NUMBER, ports(1024, 53, 60))),

@@ -103,6 +103,8 @@ def tree_file(link, tree):
 # ── Frames ───────────────────────────────────────────────────────────────────
 
 STATION, DRIVE = "02:00:00:00:00:01", "02:00:00:00:00:05"
+# Linux's numbers for kinds of devices.
+ETHERNET_DEVICE, FIREWIRE_DEVICE, LOOPBACK_DEVICE, GRE_DEVICE, BARE_DEVICE = 1, 24, 772, 778, 65534
 
 
 def mac(text):
@@ -149,15 +151,19 @@ def arp(source, destination):
     return 0x0806, padded(half(1) + half(0x0800) + bytes([6, 4]) + half(1) + sides)
 
 
+def cooked(packet, device, address):
+    """A packet with Linux's cooked header, which has the sender alone: kind of packet
+    (to us), kind of device, length of the address, the address in eight bytes."""
+    ethertype, data = packet
+    return half(0) + half(device) + half(len(address)) + address.ljust(8, b"\0") + half(ethertype) + data
+
+
 def framed(link, packet, to=DRIVE):
-    """A packet with the header of its link. LinuxSll has the sender alone: kind of
-    packet, kind of device, length of the address, the address."""
+    """A packet with the header of its link."""
     ethertype, data = packet
     if link == ETHERNET:
         return mac(to) + mac(STATION) + half(ethertype) + data
-    if link == SLL:
-        return half(0) + half(1) + half(6) + mac(STATION) + half(0) + half(ethertype) + data
-    return data
+    return cooked(packet, ETHERNET_DEVICE, mac(STATION)) if link == SLL else data
 
 
 A, B, DNS = "10.0.0.1", "10.20.0.5", "10.20.0.53"
@@ -186,6 +192,15 @@ PACKETS = {
     "lldp": ((0x88CC, padded(bytes([2, 7, 4]) + mac(STATION))), "01:80:c2:00:00:0e"),
 }
 
+# The packet of icmp from devices that only cooked captures have, with the sender's address: of six
+# bytes, of none, of four, and one of eight that begins as STATION does.
+COOKED = {
+    "loopback": (LOOPBACK_DEVICE, bytes(6)),
+    "tun": (BARE_DEVICE, b""),
+    "gre": (GRE_DEVICE, packed(A)),
+    "firewire": (FIREWIRE_DEVICE, mac(STATION) + bytes([0, 5])),
+}
+
 # Frames that end early: tcp80 before the network header's end, and before its second port byte.
 CUTS = {"cut_header": 9, "cut_port": 23}
 
@@ -195,6 +210,9 @@ def frames(link):
     made = {name: framed(link, packet, to) for name, (packet, to) in PACKETS.items()}
     if link == RAWIP:
         del made["arp"], made["lldp"]
+    if link == SLL:
+        icmp, _ = PACKETS["icmp"]
+        made |= {name: cooked(icmp, device, address) for name, (device, address) in COOKED.items()}
     for name, length in CUTS.items():
         made[name] = made["tcp80"][: NETWORK_START[link] + length]
     made["empty"] = b""
@@ -205,8 +223,10 @@ def frames(link):
 
 EVERY = (ETHERNET, SLL, RAWIP)
 TYPED = (ETHERNET, SLL)
+TO_B = f"tcp80 tcp80_options tcp80_fragment modbus sctp icmp cut_port {' '.join(COOKED)}"
 TO_DRIVE = "tcp80 tcp80_options tcp80_fragment tcp6_80 udp53 udp6_53 drive drive_service drive6 modbus sctp icmp"
 TO_DRIVE += " cut_header cut_port"
+FROM_STATION = TO_DRIVE + " icmp6 igmp mdns broadcast arp lldp"
 MULTICASTS = any_of(ETHER_MULTICAST, IP_MULTICAST, IP6_MULTICAST)
 WEB_TREE = all_of(protocol(TCP), port(80, DESTINATION, TCP))
 DRIVES = any_of(
@@ -234,29 +254,29 @@ TREES = {
     "web": (EVERY, WEB_TREE, "tcp80 tcp80_options"),
     "dns": (EVERY, port(53), "udp53 udp6_53"),
     "not_ip": (TYPED, no(protocol(IP)), "tcp6_80 udp6_53 drive6 icmp6 arp lldp empty"),
-    "host": (EVERY, host(B, DESTINATION), "tcp80 tcp80_options tcp80_fragment modbus sctp icmp cut_port"),
+    "host": (EVERY, host(B, DESTINATION), TO_B),
     "host6": (TYPED, host(A6, SOURCE), "tcp6_80 udp6_53"),
     "net": (EVERY, net4("10.20.0.0/16", BOTH), "drive drive_service"),
     "net6": (TYPED, net6("2001:db8::/32"), "tcp6_80 udp6_53 drive6"),
     "ports": (EVERY, ports(5000, 5009, DESTINATION, UDP), "drive drive_service drive6"),
     "drives": (TYPED, DRIVES, "drive drive6 modbus arp"),
     "station": ((ETHERNET,), ether_host(DRIVE, DESTINATION), TO_DRIVE),
+    "sender": (TYPED, ether_host(STATION, SOURCE), FROM_STATION),
     "multicast": ((ETHERNET,), MULTICASTS, "icmp6 igmp mdns broadcast arp lldp"),
     "ip_multicast": (EVERY, IP_MULTICAST, "igmp mdns"),
     "broadcast": (EVERY, IP_BROADCAST, "broadcast"),
     "arp_lldp": (TYPED, any_of(protocol(ARP), ether_protocol(0x88CC)), "arp lldp"),
-    "ping": (TYPED, any_of(protocol(ICMP), protocol(ICMP6)), "icmp icmp6"),
+    "ping": (TYPED, any_of(protocol(ICMP), protocol(ICMP6)), f"icmp icmp6 {' '.join(COOKED)}"),
     "chains": (TYPED, any_of(chain4(2), chain6(58)), "igmp icmp6"),
     "sctp": (EVERY, all_of(protocol(NUM, 132), port(2905, BOTH, SCTP)), "sctp"),
     "far_255": ((ETHERNET,), far(BOTH), ""),
 }
 
 
-
 def true_of(tree, link):
     """The frames of a link of which a tree is true. RawIp takes every frame for
     IPv4, and these trees are true of no IPv6 one there."""
-    names = TREES[tree][2].split()
+    names = [name for name in TREES[tree][2].split() if link == SLL or name not in COOKED]
     if link != RAWIP:
         return names
     return [name for name in names if name in CUTS or PACKETS[name][0][0] == 0x0800]
@@ -273,6 +293,8 @@ REFUSED = {
     "icmp_port": (6, tree_file(ETHERNET, any_of(port(53, EITHER, ICMP), protocol(TCP)))),
     "raw_ether": (7, tree_file(RAWIP, any_of(ETHER_MULTICAST, protocol(TCP)))),
     "far_256": (8, tree_file(ETHERNET, far(EITHER))),
+    "cooked_host": (15, tree_file(SLL, any_of(ether_host(DRIVE, DESTINATION), protocol(TCP)))),
+    "cooked_multicast": (15, tree_file(SLL, any_of(ETHER_MULTICAST, protocol(TCP)))),
 }
 
 # The longest frame that is run, and one byte more: 10.

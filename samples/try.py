@@ -21,9 +21,11 @@ import make
 PFT = make.HERE.parent / "bin" / "pft"
 LINE = re.compile(r"(.*): (accepted|dropped|short|broken), steps (\d+), direct reading (true|false)")
 EARLY = set(make.CUTS) | {"empty"}
+# What is refused with these is read directly all the same.
+READ_DIRECTLY = (5, 6, 7, 8, 15)
 WORDS = {
     1: "strange file", 2: "wrong count", 3: "bad record", 4: "not one tree", 5: "kind on raw", 6: "port protocol",
-    7: "ether on raw", 8: "far jump", 12: "no capture", 13: "other link", 14: "cut frame",
+    7: "ether on raw", 8: "far jump", 12: "no capture", 13: "other link", 14: "cut frame", 15: "cooked address",
 }  # fmt: skip
 
 
@@ -86,12 +88,13 @@ def try_trees(tally):
 
 
 def try_refused(tally):
-    """Tcp80's direct reading is true of the trees that are refused with 5, 6 and 7, and false of the far one."""
+    """Tcp80's direct reading is true of the trees that are refused with 5, 6, 7 and 15, and false of the far one."""
     for tree, (number, _) in make.REFUSED.items():
         path = str(make.HERE / "refused" / f"{tree}.pft")
-        frame = str(make.HERE / ("rawip" if tree.startswith("raw") else "ethernet") / "tcp80.frame")
+        folder = {"raw": "rawip", "cooked": "linuxsll"}.get(tree.split("_")[0], "ethernet")
+        frame = str(make.HERE / folder / "tcp80.frame")
         truth = "false" if number == 8 else "true"
-        lines = [f"{frame}: not run, direct reading {truth}"] if 5 <= number <= 8 else []
+        lines = [f"{frame}: not run, direct reading {truth}"] if number in READ_DIRECTLY else []
         message = f"{path}: refused {number}, {WORDS[number]}"
         tally.expect(path, run("run", path, frame), (lines, [message], 1))
         tally.expect(f"{path}, count", run("count", path, frame), ([], [message], 1))

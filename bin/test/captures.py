@@ -24,7 +24,7 @@ import tempfile
 import threading
 
 sys.dont_write_bytecode = True
-from command import GIGABYTE, NOBODY, ROOT, SAMPLES, SECONDS, STRANGE, FAR, WEB, Tally, run, shell, usage
+from command import COOKED, FAR, GIGABYTE, NOBODY, ROOT, SAMPLES, SECONDS, STRANGE, WEB, Tally, run, shell, usage
 
 USAGE = "usage: bin/test/captures.py [SEED [COUNT]]"
 ALL = str(SAMPLES / "ethernet" / "all.pcap")
@@ -275,6 +275,7 @@ def try_tree(tally, room):
     os.mkfifo(fifo)
     for tree, message, status in (
         (FAR, "refused 8, far jump", 1),
+        (COOKED, "refused 15, cooked address", 1),
         (STRANGE, "refused 1, strange file", 1),
         (ALL, "refused 1, strange file", 1),
         (f"{room}/none", "cannot be read, no such file", 3),

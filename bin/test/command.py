@@ -21,10 +21,13 @@ SAMPLES = ROOT / "samples"
 WEB, NOT_IP = (str(SAMPLES / "ethernet" / f"{name}.pft") for name in ("web", "not_ip"))
 GOOD, SHORT = (str(SAMPLES / "ethernet" / f"{name}.frame") for name in ("tcp80", "cut_port"))
 LONG, LONGEST = (str(SAMPLES / "refused" / f"{name}.frame") for name in ("long", "longest"))
-FAR, STRANGE = (str(SAMPLES / "refused" / f"{name}.pft") for name in ("far_256", "strange"))
+FAR, STRANGE, COOKED = (str(SAMPLES / "refused" / f"{name}.pft") for name in ("far_256", "strange", "cooked_host"))
+SENDER, SENT, CAPTURE = (str(SAMPLES / "linuxsll" / name) for name in ("sender.pft", "tcp80.frame", "all.pcap"))
 
 # Document 01's example: Ethernet, not Ip.
 LISTING = "5\n40 0 0 12\n21 0 1 2048\n5 0 0 1\n6 0 0 4294967295\n6 0 0 0\n"
+# LinuxSll, ether source 02:00:00:00:00:01: its length, then its six bytes.
+SENDER_LISTING = "8\n40 0 0 4\n21 0 5 6\n32 0 0 6\n21 0 3 33554432\n40 0 0 10\n21 0 1 1\n6 0 0 4294967295\n6 0 0 0\n"
 ACCEPTED = "accepted, steps 10, direct reading true"
 NOBODY = 65534
 GIGABYTE = 1 << 30
@@ -163,6 +166,19 @@ def try_trees(tally, room):
         tally.expect(f"{command} of a long name", run(*command, "x" * 5000, *frame), ("", long, 3))
 
 
+def try_cooked(tally):
+    """Ether addresses on LinuxSll: a destination is refused, and read directly all the same; a source is tested."""
+    message = f"{COOKED}: refused 15, cooked address\n"
+    for words in (["list", COOKED], ["list", "-d", COOKED], ["count", COOKED, CAPTURE]):
+        tally.expect(f"{words[0]} of a cooked address", run(*words), ("", message, 1))
+    read = f"{SENT}: not run, direct reading true\n", message, 1
+    tally.expect("run of a cooked address", run("run", COOKED, SENT), read)
+    tally.expect("pft-list of a cooked address", shell('bin/pft-list < "$1"', COOKED), ("refused 15\n", "", 1))
+    tally.expect("list of a sender", run("list", SENDER), (SENDER_LISTING, "", 0))
+    accepted = f"{SENT}: accepted, steps 7, direct reading true\n", "", 0
+    tally.expect("run of a sender", run("run", SENDER, SENT), accepted)
+
+
 def try_unreadable(tally, room):
     """Root may read every file, so nobody asks there."""
     file = pathlib.Path(room) / "secret.pft"
@@ -282,7 +298,7 @@ def main():
         print("usage: bin/test/command.py", file=sys.stderr)
         sys.exit(2)
     tally = Tally()
-    for part in (try_input, try_output, try_large, try_usage, try_unproved):
+    for part in (try_input, try_output, try_large, try_cooked, try_usage, try_unproved):
         part(tally)
     with tempfile.TemporaryDirectory(prefix="pft test ") as room:
         for part in (try_frames, try_trees, try_link):

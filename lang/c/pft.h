@@ -33,24 +33,25 @@ extern "C" {
 #endif
 
 /* The version of libpft.a that this header is for. Each addition to the interface raises it by one. */
-#define PFT_VERSION 2
+#define PFT_VERSION 3
 
 /* Why a call is refused. Later versions add numbers. */
 enum pft_refusal {
-    PFT_STRANGE_FILE = 1,  /* under 8 bytes, or mark, version or link differs */
-    PFT_WRONG_COUNT = 2,   /* count 0 or over 128, or length not 8 + 24 x count */
-    PFT_BAD_RECORD = 3,    /* unknown kind, direction or protocol, or an unused byte not zero */
-    PFT_NOT_ONE_TREE = 4,  /* prefix reading doesn't end exactly at the last record */
-    PFT_KIND_ON_RAW = 5,   /* RawIp, and an ethertype other than 0x0800 is to be tested */
-    PFT_PORT_PROTOCOL = 6, /* port or range with a protocol other than 0, 5, 6, 10 */
-    PFT_ETHER_ON_RAW = 7,  /* RawIp with kind 17 or 19 */
-    PFT_FAR_JUMP = 8,      /* a resolved distance exceeds 255 */
-    PFT_SHORT_BUFFER = 9,  /* fewer than 8 x instructions bytes lent */
-    PFT_LONG_FRAME = 10,   /* frame over 65,535 bytes */
-    PFT_ODD_PROGRAM = 11,  /* program of length 0, over 32,768, or not a multiple of 8 */
-    PFT_NO_CAPTURE = 12,   /* a short header or other mark */
-    PFT_OTHER_LINK = 13,   /* the link isn't the tree's */
-    PFT_CUT_FRAME = 14     /* a frame header or body runs past the file or is over 65,535 bytes */
+    PFT_STRANGE_FILE = 1,   /* under 8 bytes, or mark, version or link differs */
+    PFT_WRONG_COUNT = 2,    /* count 0 or over 128, or length not 8 + 24 x count */
+    PFT_BAD_RECORD = 3,     /* unknown kind, direction or protocol, or an unused byte not zero */
+    PFT_NOT_ONE_TREE = 4,   /* prefix reading doesn't end exactly at the last record */
+    PFT_KIND_ON_RAW = 5,    /* RawIp, and an ethertype other than 0x0800 is to be tested */
+    PFT_PORT_PROTOCOL = 6,  /* port or range with a protocol other than 0, 5, 6, 10 */
+    PFT_ETHER_ON_RAW = 7,   /* RawIp with kind 17 or 19 */
+    PFT_FAR_JUMP = 8,       /* a resolved distance exceeds 255 */
+    PFT_SHORT_BUFFER = 9,   /* fewer than 8 x instructions bytes lent */
+    PFT_LONG_FRAME = 10,    /* frame over 65,535 bytes */
+    PFT_ODD_PROGRAM = 11,   /* program of length 0, over 32,768, or not a multiple of 8 */
+    PFT_NO_CAPTURE = 12,    /* a short header or other mark */
+    PFT_OTHER_LINK = 13,    /* the link isn't the tree's */
+    PFT_CUT_FRAME = 14,     /* a frame header or body runs past the file or is over 65,535 bytes */
+    PFT_COOKED_ADDRESS = 15 /* LinuxSll with kind 17 and a direction other than 1, or with kind 19 */
 };
 
 /* How a run ends. */
@@ -75,7 +76,7 @@ enum pft_verdict {
 #define PFT_FRAME_HEADER_SIZE ((size_t)16)
 
 /*
- * The stack that a call may take, in bytes. Measured: a build 57,100 for one record and 146,700
+ * The stack that a call may take, in bytes. Measured: a build 56,700 for one record and 139,800
  * for 127 nots over one, which is the deepest tree, a count 200 more than its build; a direct
  * reading 24,700; a run or a frame below 600.
  */
@@ -92,8 +93,8 @@ static inline int pft_serves(void)
 
 /*
  * Makes the program of a tree file: 8 bytes for each instruction, little-endian (16-bit code, jt,
- * jf, 32-bit k), from the start of `program`; the rest of it is set to zero. A refusal (1 to 9)
- * sets all of it to zero. With PFT_PROGRAM_MAX bytes there is no PFT_SHORT_BUFFER.
+ * jf, 32-bit k), from the start of `program`; the rest of it is set to zero. A refusal (1 to 9
+ * or 15) sets all of it to zero. With PFT_PROGRAM_MAX bytes there is no PFT_SHORT_BUFFER.
  *
  * On a little-endian machine the program is an array of Linux's struct sock_filter; for such use
  * lend a buffer that is aligned for it.
@@ -127,10 +128,10 @@ uint32_t pft_direct(const uint8_t *tree, size_t tree_length, const uint8_t *fram
  *
  * `program` is left as pft_build leaves it, whatever the capture is.
  *
- * Answer: refusal x 2^32 + accepted frames. Refused with 1 to 9 as by pft_build, then with
- * PFT_NO_CAPTURE, then PFT_OTHER_LINK, then at the first bad frame PFT_CUT_FRAME: with this one
- * stands the count of the accepted frames before it, with all others 0. From 2^32 accepted frames
- * on, in a capture of over 64 GiB, the sum does not tell the two apart.
+ * Answer: refusal x 2^32 + accepted frames. Refused as by pft_build, then with PFT_NO_CAPTURE, then
+ * PFT_OTHER_LINK, then at the first bad frame PFT_CUT_FRAME: with this one stands the count of the
+ * accepted frames before it, with all others 0. From 2^32 accepted frames on, in a capture of over
+ * 64 GiB, the sum does not tell the two apart.
  */
 uint64_t pft_count(const uint8_t *tree, size_t tree_length, uint8_t *program, size_t program_length,
                    const uint8_t *capture, size_t capture_length);
@@ -229,6 +230,7 @@ static inline const char *pft_refusal_word(unsigned refusal)
     case PFT_NO_CAPTURE: return "no capture";
     case PFT_OTHER_LINK: return "other link";
     case PFT_CUT_FRAME: return "cut frame";
+    case PFT_COOKED_ADDRESS: return "cooked address";
     default: return "unknown refusal";
     }
 }
@@ -326,7 +328,7 @@ static inline int pft_next(struct pft_frames *frames)
 enum pft_link {
     PFT_ETHERNET = 1,
     PFT_RAW_IP = 2,   /* the IPv4 header itself */
-    PFT_LINUX_SLL = 3 /* a Linux cooked header */
+    PFT_LINUX_SLL = 3 /* a Linux cooked header, which has the sender's address and no other */
 };
 
 /* Which of a frame's two addresses or ports is meant. */
@@ -440,7 +442,10 @@ static inline struct pft_record pft_record_of(enum pft_kind kind, enum pft_direc
     return record;
 }
 
-/* Adds a record that is its kind alone: a join, a broadcast or a multicast. */
+/*
+ * Adds a record that is its kind alone: a join, a broadcast or a multicast. PFT_KIND_ETHER_MULTICAST
+ * is for PFT_ETHERNET: a build refuses it with PFT_ETHER_ON_RAW or PFT_COOKED_ADDRESS elsewhere.
+ */
 static inline void pft_add_kind(struct pft_tree *tree, enum pft_kind kind)
 {
     pft_add(tree, pft_record_of(kind, PFT_EITHER));
@@ -517,7 +522,11 @@ static inline void pft_add_host6(struct pft_tree *tree, enum pft_direction direc
     pft_add_address(tree, pft_record_of(PFT_KIND_HOST6, direction), address, 16);
 }
 
-/* Adds an Ethernet address. Not for PFT_RAW_IP. */
+/*
+ * Adds an Ethernet address. A build refuses it on PFT_RAW_IP with PFT_ETHER_ON_RAW. On PFT_LINUX_SLL
+ * it takes PFT_SOURCE, the sender, whose address then has to be six bytes long, and refuses every
+ * other direction with PFT_COOKED_ADDRESS.
+ */
 static inline void pft_add_ether_host(struct pft_tree *tree, enum pft_direction direction, const uint8_t address[6])
 {
     pft_add_address(tree, pft_record_of(PFT_KIND_ETHER_HOST, direction), address, 6);

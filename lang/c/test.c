@@ -51,7 +51,8 @@ static struct file one(uint8_t link, uint8_t kind, uint8_t protocol, uint16_t a)
     return f;
 }
 
-enum { ETHERNET = 1, RAW_IP = 2, AND = 1, OR = 2, NOT = 3, PROTOCOL = 10, HOST6 = 12, PORT = 15, MULTICAST = 19 };
+enum { ETHERNET = 1, RAW_IP = 2, LINUX_SLL = 3 };
+enum { AND = 1, OR = 2, NOT = 3, PROTOCOL = 10, HOST6 = 12, PORT = 15, ETHER_HOST = 17, MULTICAST = 19 };
 enum { IP = 1, IP6 = 2, TCP = 5, ICMP = 7 };
 
 /* Seven ether multicasts, an IPv6 source host, six IPv6 hosts in both and a last one. */
@@ -154,6 +155,8 @@ static void refused_builds(void)
     refused(one(ETHERNET, PORT, ICMP, 53), PFT_PROGRAM_MAX, PFT_PORT_PROTOCOL, "port protocol");
     refused(one(RAW_IP, MULTICAST, 0, 0), PFT_PROGRAM_MAX, PFT_ETHER_ON_RAW, "ether on raw");
     refused(far_file(0), PFT_PROGRAM_MAX, PFT_FAR_JUMP, "far jump");
+    refused(one(LINUX_SLL, ETHER_HOST, 0, 0), PFT_PROGRAM_MAX, PFT_COOKED_ADDRESS, "cooked address");
+    refused(one(LINUX_SLL, MULTICAST, 0, 0), 0, PFT_COOKED_ADDRESS, "cooked address");
     refused(f, 31, PFT_SHORT_BUFFER, "short buffer");
     refused(f, 0, PFT_SHORT_BUFFER, "short buffer");
 }
@@ -207,13 +210,15 @@ static void runs(void)
 static void readings(void)
 {
     struct file f = one(ETHERNET, PROTOCOL, IP, 0), raw = one(RAW_IP, PROTOCOL, IP6, 0);
+    struct file cooked = one(LINUX_SLL, MULTICAST, 0, 0);
     uint32_t answer;
 
     memset(frame, 0, sizeof frame);
-    frame[12] = 8;
+    frame[0] = 1, frame[12] = 8;
     TEST(direct(&f, frame, 13) == 1); /* the byte past the end is zero */
     TEST(direct(&f, frame, 12) == 0);
-    TEST(direct(&raw, frame, 64) == 0); /* the build refuses this one */
+    TEST(direct(&raw, frame, 64) == 0); /* the build refuses this one, and the next */
+    TEST(direct(&cooked, frame, 80) == 0);
     TEST(pft_direct_truth(1) == 1 && pft_direct_truth(0) == 0 && pft_direct_refusal(1) == 0);
     answer = direct(&f, frame, PFT_FRAME_MAX + 1);
     TEST(answer == 256 + 10 && pft_direct_refusal(answer) == PFT_LONG_FRAME && !pft_direct_truth(answer));
@@ -325,7 +330,7 @@ static void words(void)
     TEST(strcmp(pft_verdict_word(0), "no verdict") == 0);
     TEST(strcmp(pft_verdict_word(5), "unknown verdict") == 0);
     TEST(strcmp(pft_refusal_word(0), "not refused") == 0);
-    TEST(strcmp(pft_refusal_word(15), "unknown refusal") == 0);
+    TEST(strcmp(pft_refusal_word(16), "unknown refusal") == 0);
     TEST(strcmp(pft_refusal_word(65535), "unknown refusal") == 0);
 }
 

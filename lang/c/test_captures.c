@@ -437,6 +437,9 @@ static void in_order(void)
     pft_start(&tree, PFT_RAW_IP);
     pft_add_kind(&tree, PFT_KIND_ETHER_MULTICAST);
     COUNTS(PFT_ETHER_ON_RAW, 0);
+    pft_start(&tree, PFT_LINUX_SLL);
+    pft_add_kind(&tree, PFT_KIND_ETHER_MULTICAST);
+    COUNTS(PFT_COOKED_ADDRESS, 0);
     pft_add_kind(&tree, PFT_KIND_ETHER_MULTICAST);
     COUNTS(PFT_NOT_ONE_TREE, 0);
     tree.bytes[8] = 99;
@@ -465,6 +468,28 @@ static void small_captures(void)
     COUNTS(0, 1);
     made.length--;
     COUNTS(PFT_CUT_FRAME, 0);
+}
+
+/* Frames of one sender whose address has 0 to 15 bytes by the cooked header: that of six is accepted. */
+static void cooked_senders(int order)
+{
+    static const uint8_t sender[6] = {2, 0, 0, 0, 0, 1};
+    uint8_t length;
+
+    pft_start(&tree, PFT_LINUX_SLL);
+    pft_add_ether_host(&tree, PFT_SOURCE, sender);
+    start(&made, order, marks[0], 113);
+    make_frame(2, 17);
+    memcpy(frame + 6, sender, 6);
+    for (length = 0; length < MOST_FRAMES; length++) {
+        frame[5] = length;
+        add_frame(&made, frame, 80);
+    }
+    COUNTS(0, 1);
+    pft_start(&tree, PFT_LINUX_SLL);
+    pft_add_not(&tree);
+    pft_add_ether_host(&tree, PFT_SOURCE, sender);
+    COUNTS(0, MOST_FRAMES - 1);
 }
 
 /* Every place of a capture, and places far outside of it. */
@@ -582,6 +607,8 @@ int main(void)
     long_frames();
     in_order();
     small_captures();
+    cooked_senders(BIG);
+    cooked_senders(LITTLE);
     every_place();
     large_capture();
     shared_slices();

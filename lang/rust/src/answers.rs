@@ -37,6 +37,8 @@ pub enum Refusal {
     OtherLink = 13,
     /// 14: a frame header or body runs past the file or is over 65,535 bytes.
     CutFrame = 14,
+    /// 15: LinuxSll with ether multicast, or with an ether host of another direction than source.
+    CookedAddress = 15,
 }
 
 impl Refusal {
@@ -56,6 +58,7 @@ impl Refusal {
         Refusal::NoCapture,
         Refusal::OtherLink,
         Refusal::CutFrame,
+        Refusal::CookedAddress,
     ];
 
     /// Its number.
@@ -88,6 +91,7 @@ impl Refusal {
             Refusal::NoCapture => "no capture",
             Refusal::OtherLink => "other link",
             Refusal::CutFrame => "cut frame",
+            Refusal::CookedAddress => "cooked address",
         }
     }
 }

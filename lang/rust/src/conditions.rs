@@ -114,13 +114,22 @@ pub fn ports(
     Condition::single(Record::PortRange(direction, protocol.into(), low, high))
 }
 
-/// An Ethernet address. Not for [`RawIp`](crate::Link::RawIp).
+/// An Ethernet address. A build refuses it on [`RawIp`](crate::Link::RawIp) with
+/// [`EtherOnRaw`](crate::Refusal::EtherOnRaw). On [`LinuxSll`](crate::Link::LinuxSll) it takes
+/// [`Source`], the sender, whose address then has to be six bytes long, and refuses every other
+/// direction with [`CookedAddress`](crate::Refusal::CookedAddress).
 ///
 /// ```
 /// use dabberpearl::conditions::*;
+/// use dabberpearl::{Program, Refusal, Tree};
 ///
-/// let drive = ether_host(Source, [0x02, 0, 0x5e, 0x10, 0, 1]);
-/// assert_eq!(drive.to_string(), "ether src host 02:00:5e:10:00:01");
+/// let drive = [0x02, 0, 0x5e, 0x10, 0, 1];
+/// let sent = ether_host(Source, drive);
+/// assert_eq!(sent.to_string(), "ether src host 02:00:5e:10:00:01");
+/// assert_eq!(Program::from_tree(&Tree::linux_sll(sent)?)?.len(), 8);
+/// let received = Tree::linux_sll(ether_host(Destination, drive))?;
+/// assert_eq!(Program::from_tree(&received), Err(Refusal::CookedAddress.into()));
+/// # Ok::<(), dabberpearl::Error>(())
 /// ```
 pub fn ether_host(direction: Direction, address: impl Into<Mac>) -> Condition {
     Condition::single(Record::EtherHost(direction, address.into()))
@@ -137,8 +146,10 @@ pub fn ether_protocol(ethertype: u16) -> Condition {
     Condition::single(Record::EtherProtocol(ethertype))
 }
 
-/// To a group of Ethernet addresses: the lowest bit of the frame's first byte. Not for
-/// [`RawIp`](crate::Link::RawIp).
+/// To a group of Ethernet addresses: the lowest bit of the frame's first byte. It is for
+/// [`Ethernet`](crate::Link::Ethernet): a build refuses it on [`RawIp`](crate::Link::RawIp) with
+/// [`EtherOnRaw`](crate::Refusal::EtherOnRaw), on [`LinuxSll`](crate::Link::LinuxSll) with
+/// [`CookedAddress`](crate::Refusal::CookedAddress).
 pub fn ether_multicast() -> Condition {
     Condition::single(Record::EtherMulticast)
 }

@@ -79,7 +79,7 @@ struct Readme;
 
 /// The version of libpft.a that this crate is made for. Each addition to the interface raises it
 /// by one.
-pub const VERSION: u32 = 2;
+pub const VERSION: u32 = 3;
 
 /// The most records of a tree.
 pub const MAX_RECORDS: usize = 128;
@@ -127,8 +127,8 @@ pub fn check_archive() -> Result<(), Error> {
 ///
 /// # Errors
 ///
-/// Refusals 1 to 4 in this order over the whole file, then of 5 to 8 the one that is met first,
-/// then 9. The whole buffer is zero after each.
+/// Refusals 1 to 4 in this order over the whole file, then of 5 to 8 and 15 the one that is met
+/// first, then 9. The whole buffer is zero after each.
 ///
 /// ```
 /// use dabberpearl::{build, conditions::*, Refusal, Tree};
@@ -172,7 +172,7 @@ pub fn run(program: &[u8], frame: &[u8]) -> Result<Outcome, Error> {
 /// # Errors
 ///
 /// Refusals 1 to 4, then [`LongFrame`](Refusal::LongFrame). Trees that [`build`] refuses with 5
-/// to 8 can be read.
+/// to 8 or 15 can be read.
 ///
 /// ```
 /// use dabberpearl::{conditions::*, direct, Tree};

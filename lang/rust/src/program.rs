@@ -26,14 +26,16 @@ impl Program {
     ///
     /// # Errors
     ///
-    /// Refusals 1 to 8, for a [`Tree`](crate::Tree) 5 to 8. [`OldArchive`](Error::OldArchive) where
-    /// [`check_archive`] says so.
+    /// Refusals 1 to 8 and 15, for a [`Tree`](crate::Tree) 5 to 8 and 15.
+    /// [`OldArchive`](Error::OldArchive) where [`check_archive`] says so.
     ///
     /// ```
     /// use dabberpearl::{conditions::*, Program, Refusal, Tree};
     ///
     /// let tree = Tree::raw_ip(ether_multicast())?;
     /// assert_eq!(Program::from_tree(&tree), Err(Refusal::EtherOnRaw.into()));
+    /// let tree = Tree::linux_sll(ether_multicast())?;
+    /// assert_eq!(Program::from_tree(&tree), Err(Refusal::CookedAddress.into()));
     /// assert_eq!(Program::from_tree(b"no tree file"), Err(Refusal::StrangeFile.into()));
     /// # Ok::<(), dabberpearl::Error>(())
     /// ```

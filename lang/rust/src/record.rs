@@ -66,11 +66,11 @@ pub enum Record {
     Port(Direction, Option<Protocol>, u16),
     /// 16: a port from the first number to the second, both included.
     PortRange(Direction, Option<Protocol>, u16, u16),
-    /// 17: an Ethernet address.
+    /// 17: an Ethernet address; on LinuxSll the sender's, with its length.
     EtherHost(Direction, Mac),
     /// 18: an ethertype.
     EtherProtocol(u16),
-    /// 19: the lowest bit of the frame's first byte.
+    /// 19: the lowest bit of the frame's first byte, on Ethernet.
     EtherMulticast,
     /// 20: to 255.255.255.255.
     IpBroadcast,

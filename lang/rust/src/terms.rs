@@ -11,7 +11,7 @@ pub enum Link {
     Ethernet = 1,
     /// The IPv4 header itself.
     RawIp = 2,
-    /// A Linux cooked header of 16 bytes.
+    /// A Linux cooked header of 16 bytes, which has the sender's address and no other.
     LinuxSll = 3,
 }
 

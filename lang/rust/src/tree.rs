@@ -18,7 +18,7 @@ const COUNT_PLACE: usize = 6;
 
 /// A tree file: a link, and one condition joined of single ones.
 ///
-/// It has passed the refusals 1 to 4; a build may still refuse it with 5 to 8.
+/// It has passed the refusals 1 to 4; a build may still refuse it with 5 to 8 or 15.
 ///
 /// ```
 /// use dabberpearl::conditions::*;

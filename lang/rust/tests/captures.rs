@@ -304,6 +304,7 @@ fn after_the_trees_own() {
         (file(ETHERNET, port(EITHER, ICMP, 1)), Refusal::PortProtocol),
         (file(RAW_IP, ether_multicast()), Refusal::EtherOnRaw),
         (far(EITHER), Refusal::FarJump),
+        (file(LINUX_SLL, ether_multicast()), Refusal::CookedAddress),
     ] {
         for capture in faulty() {
             assert_eq!(both(&tree, &capture), refused(refusal));
@@ -353,7 +354,7 @@ fn random_capture(rng: &mut Rng, link: u8) -> Vec<u8> {
 #[test]
 fn of_random_trees_and_captures() {
     let mut rng = Rng(1);
-    let (mut accepted, mut met) = (0, [0; 15]);
+    let (mut accepted, mut met) = (0, [0; Refusal::ALL.len() + 1]);
     for _ in 0..4_000 {
         let link = [ETHERNET, RAW_IP, LINUX_SLL][rng.below(3)];
         let tree = file(link, random_tree(&mut rng, 3));
@@ -365,10 +366,9 @@ fn of_random_trees_and_captures() {
         met[number.expect("a refusal") as usize] += 1;
         accepted += counted.accepted;
     }
-    assert!(
-        met[0] > 500 && met[9] > 50 && met[12] > 30 && met[13] > 30 && met[14] > 100,
-        "{met:?}"
-    );
+    for (number, least) in [(0, 500), (9, 50), (12, 30), (13, 30), (14, 100), (15, 30)] {
+        assert!(met[number] > least, "{met:?}");
+    }
     assert!(accepted > 2_000, "{accepted}");
 }
 

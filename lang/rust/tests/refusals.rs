@@ -79,6 +79,12 @@ fn refused_files() -> Vec<(Vec<u8>, Refusal, u32, &'static str)> {
             "ether on raw",
         ),
         (far(EITHER), Refusal::FarJump, 8, "far jump"),
+        (
+            file(LINUX_SLL, ether_multicast()),
+            Refusal::CookedAddress,
+            15,
+            "cooked address",
+        ),
     ]
 }
 
@@ -159,7 +165,7 @@ fn of_readings() {
         assert_eq!(
             answer.err(),
             (number <= 4).then_some(refusal.into()),
-            "5 to 8 are the build's alone"
+            "5 to 8 and 15 are the build's alone"
         );
     }
 }

@@ -54,6 +54,16 @@ pub fn net6(prefix: u8) -> Vec<Record> {
     vec![r]
 }
 
+/// An ether address, as it stands in some frames.
+pub const STATION: [u8; 6] = [2, 0, 0, 0, 0, 6];
+
+pub fn ether_host(direction: u8) -> Vec<Record> {
+    let mut r = record(17);
+    r[1] = direction;
+    r[8..14].copy_from_slice(&STATION);
+    vec![r]
+}
+
 pub fn ether_multicast() -> Vec<Record> {
     vec![record(19)]
 }
@@ -127,7 +137,7 @@ impl Rng {
 }
 
 fn random_leaf(rng: &mut Rng) -> Vec<Record> {
-    match rng.below(6) {
+    match rng.below(8) {
         0 => protocol([IP, IP6, TCP, UDP, ICMP, ICMP6][rng.below(6)]),
         1 => port(
             rng.below(4) as u8,
@@ -136,7 +146,8 @@ fn random_leaf(rng: &mut Rng) -> Vec<Record> {
         ),
         2 => host6(rng.below(4) as u8),
         3 => net6([0, 1, 32, 127, 128, 255][rng.below(6)]),
-        4 => ether_multicast(),
+        4 => ether_host(SOURCE),
+        5 if rng.below(3) == 0 => [ether_host(EITHER), ether_multicast()][rng.below(2)].clone(),
         _ => vec![record([20, 21, 22][rng.below(3)])],
     }
 }
@@ -150,7 +161,7 @@ pub fn random_tree(rng: &mut Rng, depth: usize) -> Vec<Record> {
     }
 }
 
-/// A frame that reaches 64 bytes past the network start, of few values.
+/// A frame that reaches 64 bytes past the network start, of few values; some are sent by STATION.
 pub fn random_frame(rng: &mut Rng) -> Vec<u8> {
     let mut frame: Vec<u8> = (0..80 + rng.below(20))
         .map(|_| [0, 1, 6, 17, 53, 80, 255][rng.below(7)])
@@ -158,6 +169,10 @@ pub fn random_frame(rng: &mut Rng) -> Vec<u8> {
     let kind: u16 = [0x0800, 0x86dd, 0x0806][rng.below(3)];
     for place in [12, 14] {
         frame[place..place + 2].copy_from_slice(&kind.to_be_bytes());
+    }
+    if rng.below(2) == 0 {
+        frame[4..6].copy_from_slice(&[[0, 6], [0, 8]][rng.below(2)]);
+        frame[6..12].copy_from_slice(&STATION);
     }
     frame
 }
