@@ -111,7 +111,10 @@ fn blame(filter: &Filter, reading: &Reading, length: usize) -> Blame {
     let Ok(program) = &filter.answer else {
         return Blame::Capture;
     };
-    let differs = |frame: &&&[u8]| exports::run(program, frame) >> 16 != filter.run(frame) >> 16;
+    let verdict = |frame: &[u8]| exports::run(program, frame) >> 16;
+    let is_wrong = |frame: &[u8]| verdict(frame) != filter.run(frame) >> 16;
+    // a frame that no run takes is the reader's fault
+    let differs = |frame: &&&[u8]| frame.len() <= LONGEST && is_wrong(frame);
     match reading.given.frames.iter().find(differs) {
         Some(frame) => {
             let (program, frame) = (to_hex(program), to_hex(frame));

@@ -1,5 +1,5 @@
 //! Files that the generator above makes seldom: longest jumps of 254 to 257,
-//! several faults in one file, and junk behind a good header.
+//! several faults in one file, small cooked trees, and junk behind a good header.
 
 use super::*;
 
@@ -298,6 +298,27 @@ pub fn faulty(rng: &mut Rng) -> Faulty {
         strange(rng, &mut file);
     }
     Faulty { file, faults }
+}
+
+// ── Small cooked trees ───────────────────────────────────────────────────────
+
+/// An ether condition on LinuxSll, which mostly turns it down: alone, under a not, or with
+/// another condition.
+pub fn cooked(rng: &mut Rng) -> Vec<u8> {
+    let mut v = Values::new(rng, ALL);
+    v.directions = vec![EITHER, SOURCE, DESTINATION, BOTH];
+    let kind = rng.pick(&[17, 17, 17, 19]);
+    let ether = leaf(rng, &v, kind);
+    v.senders = true;
+    let other = any_leaf(rng, &v);
+    let join = record(rng.pick(&[AND, OR]));
+    let records = match rng.below(4) {
+        0 => vec![ether],
+        1 => vec![record(NOT), ether],
+        2 => vec![join, ether, other],
+        _ => vec![join, other, ether],
+    };
+    file_of(SLL, &records)
 }
 
 // ── Junk behind a good header ────────────────────────────────────────────────

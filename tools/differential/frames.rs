@@ -1,7 +1,7 @@
 //! Frames that a tree looks at: its own values put where it reads them, and
 //! near misses.
 
-use crate::trees::{Rng, SLL};
+use crate::trees::{Rng, EITHER, SLL, SOURCE};
 use crate::{HEADER, LINK, RECORD};
 
 /// How far past the network start a frame is drawn.
@@ -129,7 +129,8 @@ impl Aim<'_> {
         self.to.sides(sides, source, destination, bytes);
     }
 
-    /// An address, at times with other bits where mask or prefix does not look.
+    /// An address, at times with other bits where mask or prefix does not look, or missed by
+    /// the last bit that a prefix looks at.
     fn address(&mut self, r: &[u8]) {
         let n = self.to.n;
         let mut bytes = if r[0] % 2 == 1 {
@@ -145,6 +146,10 @@ impl Aim<'_> {
             _ => false,
         };
         bytes[byte] ^= if free { bit } else { 0 };
+        if r[0] == 14 && matches!(r[3], 1..=128) && self.rng.below(8) == 0 {
+            let last = r[3] as usize - 1;
+            bytes[last / 8] ^= 0x80 >> (last % 8);
+        }
         if r[0] % 2 == 1 {
             self.to.kind(0x0800);
             self.sides(r[1], n + 12, n + 16, &bytes);
@@ -192,8 +197,9 @@ impl Aim<'_> {
         self.sides(r[1], at, at + 2, &port.to_be_bytes());
     }
 
-    /// An ether address. A cooked frame mostly has a length with it, which may overwrite a
-    /// part of what stands where others have the destination.
+    /// An ether address. A cooked frame mostly has a length with a sender's. For a direction
+    /// that LinuxSll turns down any side has it, and half are left as an ether header has
+    /// them, since the length would be within the destination.
     fn ether_host(&mut self, r: &[u8]) {
         const LENGTHS: [[u8; 2]; 10] = [
             [0, 0],
@@ -207,7 +213,12 @@ impl Aim<'_> {
             [0x80, 6],
             [6, 0],
         ];
-        self.sides(r[1], ETHER_SOURCE, ETHER_DESTINATION, &r[8..14]);
+        let turned_down = self.to.link == SLL && r[1] != SOURCE;
+        let direction = if turned_down { EITHER } else { r[1] };
+        self.sides(direction, ETHER_SOURCE, ETHER_DESTINATION, &r[8..14]);
+        if turned_down && self.rng.below(2) == 0 {
+            return;
+        }
         let length = match self.rng.below(16) {
             0..=8 => ETHER_LENGTH,
             9..=13 => self.rng.pick(&LENGTHS),

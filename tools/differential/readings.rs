@@ -228,6 +228,7 @@ pub fn compare_all(seed: u64, count: u64, parts: &mut Parts) {
             0 => edges::tuned(&mut rng, |file| crate::build(file).err()),
             1 => vec![edges::junk(&mut rng)],
             2 => vec![edges::faulty(&mut rng).file],
+            3 => vec![edges::cooked(&mut rng)],
             _ => vec![widened(&mut wide, trees::tree_file(&mut rng))],
         };
         for file in files {
