@@ -15,7 +15,7 @@ use Rattle.ast.specs.declared.LinkType.{LinkType}
 use Rattle.ast.specs.declared.LinkType.the-variants.{LinuxSll}
 use Rattle.ast.specs.Tree.{Expr}
 use Rattle.codegen.specs.Compile.{compile}
-use Rattle.codegen.specs.Cooked.{firstDown, holdsEther, compileBefore}
+use Rattle.codegen.specs.Cooked.{firstDown}
 use Rattle.codegen.proofs.Cooked.{cooked}
 use Rattle.build.specs.declared.BuildResult.the-variants.{Refused}
 use Rattle.build.specs.Build.{rejected, placed, tooShort, into, program, build}
@@ -56,12 +56,9 @@ module _ (T : List ℕ) (c : Calls) (k : Kept T c) where
   free-of t r n (inl h) = inl (cooked .free t r n h)
   free-of t r n (inr h) = inr h
 
-  same : (L : LinkType) (t : Expr) → (¬ (L ≡ LinuxSll)) ⊎ (holdsEther t ≡ false) → compile L t ≡ compileBefore L t
-  same L t o = cooked .before L t o
-
   pub cooked-file : CookedFile T c
   cooked-file = record {
     turned = λ t r e h lent. first-down t r e lent (cooked .first t r h);
     free = λ t r e n lent h. free-of t r n (own (compile LinuxSll t) lent r (sym (answers LinuxSll t e lent) ∙ h));
-    kept = λ L t e o lent. (answers L t e lent ∙ ap (λ p. into lent p .answer) (same L t o), leaves L t e lent ∙ ap (λ p. into lent p .buffer) (same L t o));
+    kept = λ L t e o lent. (answers L t e lent ∙ ap (λ p. into lent p .answer) (cooked .before L t o), leaves L t e lent ∙ ap (λ p. into lent p .buffer) (cooked .before L t o));
   }

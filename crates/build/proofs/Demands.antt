@@ -1,18 +1,18 @@
 -- Demands 1 and 3 hold of every tree file.
 use Prim.Native.Nat.{ℕ, _+_, _*_, _-_, _≤_, _<_}
 use mathlib.Core.Path.{_≡_, refl, sym, ap, _∙_, subst}
-use mathlib.Core.List.{List, _++_}
+use mathlib.Core.List.{List, _∷_, _++_}
 use mathlib.Core.Bool.{Bool, true, false, cond}
 use mathlib.Core.Logic.{_↔_, _⊎_, inl, inr}
 use native.Mathlib.Omega.{arith}
 use lib.ListN.{length, replicate, take, drop, take-append-drop}
 use lib.Seq.{take-at, take-length}
-use lib.Dec.{ltb}
+use lib.Dec.{ltb, T}
 use borrow.Author.Tests.{ltb-false, ltb-true, lt-ltb, le-ltb}
 use Rattle.error.specs.declared.Refusal.{Refusal}
 use Rattle.error.specs.declared.Refusal.the-variants.{ShortBuffer}
 use Rattle.error.specs.Answer.{Out, refused, done, numberOf, Numbered}
-use Rattle.error.proofs.Among.{numbered-more}
+use Rattle.error.proofs.Among.{within, numbered-more}
 use Rattle.error.proofs.All.{All, all-bind, all-of, Turned, turned-bind, turned-map}
 use Rattle.bpf.specs.declared.Insn.{Insn}
 use Rattle.bpf.specs.Bytes.{AreBytes}
@@ -155,6 +155,11 @@ numbered (done p) lent r h e = go (tooShort lent p) e
     go : (b : Bool) → cond b (rejected lent ShortBuffer) (placed lent p) .answer ≡ Refused r → Numbered buildNumbers r
     go true e = rw (← refusal e) tt
     go false e = never (sym e)
+
+-- and none of these is left over
+narrow : T (within buildNumbers (9 ∷ own))
+unfolding own
+narrow = tt
 
 -- 9 is not one of them
 last-of : (o : Out (List Insn)) (lent : ℕ) → Turned Own o → into lent o .answer ≡ Refused ShortBuffer
