@@ -241,7 +241,7 @@ def copy_program(room):
 
 def try_unmade(tally, room):
     """Help and version come before the program is made."""
-    for name in ("pft", "pft/list", "pft/run", "pft/count"):
+    for name in ("pft", "pft/type", "pft/list", "pft/run", "pft/count"):
         words = f"{name[4:]} --help"
         text = (ROOT / "bin" / "help" / f"{name}.txt").read_text()
         tally.expect(f"{words}, not made", run(*words.split(), root=room), (text, "", 0))

@@ -4,7 +4,7 @@ use mathlib.Core.List.{List, [], _∷_}
 use mathlib.Core.Bool.{Bool, false, _||_}
 use lib.Dec.{eqb, T}
 use Rattle.error.specs.declared.Refusal.{Refusal}
-use Rattle.error.specs.declared.Refusal.the-variants.{StrangeFile, WrongCount, BadRecord, NotOneTree, KindOnRaw, PortProtocol, EtherOnRaw, FarJump, ShortBuffer, LongFrame, OddProgram, NoCapture, OtherLink, CutFrame, CookedAddress}
+use Rattle.error.specs.declared.Refusal.the-variants.{StrangeFile, WrongCount, BadRecord, NotOneTree, KindOnRaw, PortProtocol, EtherOnRaw, FarJump, ShortBuffer, LongFrame, OddProgram, NoCapture, OtherLink, CutFrame, CookedAddress, UnknownWord, Unfinished, TooLarge}
 
 -- "| Number | Word | Given when |"
 abbrev pub numberOf : Refusal → ℕ
@@ -25,6 +25,10 @@ numberOf OtherLink = 13
 numberOf CutFrame = 14
 -- T-03: 15 "cooked address"
 numberOf CookedAddress = 15
+-- T-04: 16 "unknown word", 17 "unfinished", 18 "too large"
+numberOf UnknownWord = 16
+numberOf Unfinished = 17
+numberOf TooLarge = 18
 
 -- a number is one of these
 abbrev pub among : List ℕ → ℕ → Bool

@@ -19,6 +19,9 @@ pub enum Refusal {
     OtherLink,
     CutFrame,
     CookedAddress,
+    UnknownWord,
+    Unfinished,
+    TooLarge,
 }
 
 // The number, which is not 0 and takes a byte.
@@ -41,5 +44,8 @@ pub fn refusal_number(refusal: Refusal) -> u32
         Refusal::OtherLink => 13,
         Refusal::CutFrame => 14,
         Refusal::CookedAddress => 15,
+        Refusal::UnknownWord => 16,
+        Refusal::Unfinished => 17,
+        Refusal::TooLarge => 18,
     }
 }

@@ -1,13 +1,16 @@
-// What `pft` answers and says: its subcommands over a tree file, frame files and captures by name.
+// What `pft` answers and says: its subcommands over trees, which are files or typed lines, frame files and captures by name.
 mod count;
 mod list;
 mod over;
 mod run;
+mod tree;
+mod typed;
 
 use error::Refusal;
 use error::refusal_number;
 pub use list::list_input;
 use over::Work;
+use tree::Job;
 
 // Where lines go: descriptors for answers, and for what is refused or cannot be read.
 pub struct Output {
@@ -63,6 +66,9 @@ fn put_refusal(fd: i32, r: Refusal) -> bool {
         Refusal::OtherLink => text(fd, b"other link"),
         Refusal::CutFrame => text(fd, b"cut frame"),
         Refusal::CookedAddress => text(fd, b"cooked address"),
+        Refusal::UnknownWord => text(fd, b"unknown word"),
+        Refusal::Unfinished => text(fd, b"unfinished"),
+        Refusal::TooLarge => text(fd, b"too large"),
     }
 }
 
@@ -93,13 +99,19 @@ fn put_name(fd: i32, name: &[u8]) -> bool {
 
 // ---- lines of people; each function answers how that part of the work ended
 
-// The front of a line on a refusal.
-fn put_refused(fd: i32, name: &[u8], r: Refusal) {
-    put_name(fd, name);
-    text(fd, b": refused ");
+// A refusal by number and word.
+fn put_numbered(fd: i32, r: Refusal) {
+    text(fd, b"refused ");
     io::print_decimal(fd, refusal_number(r) as u64);
     text(fd, b", ");
     put_refusal(fd, r);
+}
+
+// The front of a line on a refusal.
+fn put_refused(fd: i32, name: &[u8], r: Refusal) {
+    put_name(fd, name);
+    text(fd, b": ");
+    put_numbered(fd, r);
 }
 
 fn refused(o: Output, name: &[u8], r: Refusal) -> u8 {
@@ -135,6 +147,15 @@ fn answered(o: Output, written: bool) -> u8 {
 
 // ---- the subcommands
 
+// The first n bytes.
+fn first(buffer: &[u8], n: usize) -> &[u8] {
+    if n <= buffer.len() {
+        &buffer[0..n]
+    } else {
+        buffer
+    }
+}
+
 // Whether an argument is an option: `-` alone is none.
 fn is_option(word: &[u8]) -> bool {
     word.len() > 1 && word[0] == b'-'
@@ -148,14 +169,17 @@ pub fn answer(from: usize, to: usize, o: Output) -> u8 {
     }
     let mut word = io::buffer();
     let n = os::arg(from, &mut word);
+    if check::same(&word[..n], b"type") {
+        return typed::answer(Job::Write, from + 1, to, o);
+    }
     if check::same(&word[..n], b"list") {
         return list::answer(from + 1, to, o);
     }
     if check::same(&word[..n], b"run") {
-        return over::answer(Work::Run, from + 1, to, o);
+        return tree::answer(Job::Over(Work::Run), from + 1, to, o);
     }
     if check::same(&word[..n], b"count") {
-        return over::answer(Work::Count, from + 1, to, o);
+        return tree::answer(Job::Over(Work::Count), from + 1, to, o);
     }
     USAGE
 }

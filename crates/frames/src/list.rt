@@ -1,12 +1,10 @@
 // `pft list`, and document 01's listing.
 use crate::Output;
 use crate::REFUSED;
-use crate::USAGE;
 use crate::answered;
-use crate::is_option;
 use crate::refused;
-use crate::unread;
-use crate::unread_argument;
+use crate::tree;
+use crate::tree::Job;
 use crate::worse;
 use build::BuildResult;
 use error::Refusal;
@@ -16,7 +14,7 @@ use listing::Form;
 // ---- a tree file
 
 // How a refusal is told: to people, or as document 01 has it, in the answer's place.
-enum Refusals {
+pub enum Refusals {
     Said,
     Answered,
 }
@@ -34,17 +32,9 @@ fn turned_down(name: &[u8], r: Refusal, told: Refusals, o: Output) -> u8 {
     }
 }
 
-// A tree file has at most 3,080 bytes. Of a longer one 4,096 bytes tell all: number 1 looks at the first eight, and number 2 holds of
-// every length over 3,080.
-fn list_tree(name: &[u8], form: Form, told: Refusals, o: Output) -> u8 {
-    let mut tree = io::buffer();
-    let got = files::read(name, &mut tree);
-    if got.error != 0 {
-        return unread(o, name, got.error);
-    }
-    let n = got.count;
+pub fn with_tree(name: &[u8], tree: &[u8], form: Form, told: Refusals, o: Output) -> u8 {
     let mut program = [0u8; 32768];
-    match build::build(&tree[..n], &mut program) {
+    match build::build(tree, &mut program) {
         BuildResult::Count(count) => {
             let written = listing::put_program(o.answers, &program, count as usize, form);
             answered(o, written)
@@ -55,7 +45,7 @@ fn list_tree(name: &[u8], form: Form, told: Refusals, o: Output) -> u8 {
 
 // Document 01's listing of standard input.
 pub fn list_input(o: Output) -> u8 {
-    list_tree(b"-", Form::Numbers, Refusals::Answered, o)
+    tree::with_input(Job::List(Form::Numbers, Refusals::Answered), o)
 }
 
 // ---- the arguments
@@ -64,7 +54,6 @@ pub fn list_input(o: Output) -> u8 {
 enum Word {
     Form(Form),
     Tree,
-    Unknown,
 }
 
 fn word_of(word: &[u8]) -> Word {
@@ -77,35 +66,16 @@ fn word_of(word: &[u8]) -> Word {
     if check::same(word, b"--bytecode") {
         return Word::Form(Form::Bytecode);
     }
-    if is_option(word) {
-        return Word::Unknown;
-    }
     Word::Tree
-}
-
-// The tree that the last argument names.
-fn list_named(i: usize, form: Form, o: Output) -> u8 {
-    let mut name = io::buffer();
-    let n = os::arg(i, &mut name);
-    let error = os::errno();
-    if error != 0 {
-        return unread_argument(o, i, error);
-    }
-    if is_option(&name[..n]) {
-        return USAGE;
-    }
-    list_tree(&name[..n], form, Refusals::Said, o)
 }
 
 // The arguments after an option: a tree, or none for standard input.
 fn list_rest(from: usize, to: usize, form: Form, o: Output) -> u8 {
+    let job = Job::List(form, Refusals::Said);
     if to <= from {
-        return list_tree(b"-", form, Refusals::Said, o);
+        return tree::with_input(job, o);
     }
-    if to - from > 1 {
-        return USAGE;
-    }
-    list_named(from, form, o)
+    tree::answer(job, from, to, o)
 }
 
 pub fn answer(from: usize, to: usize, o: Output) -> u8 {
@@ -117,6 +87,5 @@ pub fn answer(from: usize, to: usize, o: Output) -> u8 {
     match word_of(&word[..n]) {
         Word::Form(form) => list_rest(from + 1, to, form, o),
         Word::Tree => list_rest(from, to, Form::Numbers, o),
-        Word::Unknown => USAGE,
     }
 }

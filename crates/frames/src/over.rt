@@ -1,14 +1,13 @@
-// A tree file's program over the files that are named after it: what `pft run` and `pft count` share.
+// A tree's program over the files that are named after it: what `pft run` and `pft count` share.
 use crate::DONE;
 use crate::Output;
 use crate::UNWRITTEN;
 use crate::USAGE;
 use crate::count;
-use crate::is_option;
+use crate::first;
 use crate::refused;
 use crate::run;
 use crate::text;
-use crate::unread;
 use crate::unread_argument;
 use crate::worse;
 use build::BuildResult;
@@ -52,15 +51,6 @@ fn try_arguments(work: Work, from: usize, to: usize, tree: &[u8], program: &[u8]
 
 // ---- the tree
 
-// The first n bytes.
-fn first(buffer: &[u8], n: usize) -> &[u8] {
-    if n <= buffer.len() {
-        &buffer[0..n]
-    } else {
-        buffer
-    }
-}
-
 // A tree that passes checks 1 to 4 has a direct reading.
 fn is_tree(r: Refusal) -> bool {
     match r {
@@ -95,7 +85,7 @@ fn without_program(
     }
 }
 
-fn with_tree(work: Work, name: &[u8], tree: &[u8], from: usize, to: usize, o: Output) -> u8 {
+pub fn with_tree(work: Work, name: &[u8], tree: &[u8], from: usize, to: usize, o: Output) -> u8 {
     let mut program = [0u8; 32768];
     match build::build(tree, &mut program) {
         BuildResult::Count(count) => {
@@ -106,17 +96,6 @@ fn with_tree(work: Work, name: &[u8], tree: &[u8], from: usize, to: usize, o: Ou
     }
 }
 
-// As in `pft list`, 4,096 bytes tell all of a tree file.
-fn with_tree_file(work: Work, name: &[u8], from: usize, to: usize, o: Output) -> u8 {
-    let mut tree = io::buffer();
-    let got = files::read(name, &mut tree);
-    if got.error != 0 {
-        return unread(o, name, got.error);
-    }
-    let n = got.count;
-    with_tree(work, name, &tree[..n], from, to, o)
-}
-
 // ---- the arguments
 
 fn is_standard_input(i: usize) -> bool {
@@ -125,8 +104,8 @@ fn is_standard_input(i: usize) -> bool {
     check::same(&name[..n], b"-")
 }
 
-// Whether standard input is named twice: it can be read once.
-fn names_input_twice(from: usize, to: usize) -> bool {
+// Whether standard input is named twice, which can be read once.
+pub fn names_input_twice(from: usize, to: usize) -> bool {
     let mut named = false;
     let mut i = from;
     while i < to {
@@ -141,26 +120,10 @@ fn names_input_twice(from: usize, to: usize) -> bool {
     false
 }
 
-// A tree and one file or more.
-pub fn answer(work: Work, from: usize, to: usize, o: Output) -> u8 {
-    if to <= from || to - from < 2 {
-        return USAGE;
-    }
-    let mut name = io::buffer();
-    let n = os::arg(from, &mut name);
-    let error = os::errno();
-    if error != 0 {
-        return unread_argument(o, from, error);
-    }
-    if is_option(&name[..n]) {
-        return USAGE;
-    }
-    if names_input_twice(from, to) {
-        text(
-            o.messages,
-            b"standard input: named twice, and it can be read once\n",
-        );
-        return USAGE;
-    }
-    with_tree_file(work, &name[..n], from + 1, to, o)
+pub fn named_twice(o: Output) -> u8 {
+    text(
+        o.messages,
+        b"standard input: named twice, and it can be read once\n",
+    );
+    USAGE
 }

@@ -1,13 +1,14 @@
--- Answers of T-01 as C gets them, computed: refusal × 2^32 + accepted frames, or + captured length.
+-- Answers of T-01 and T-04 as C gets them, computed: refusal × 2^32 + accepted frames, + captured length, or + place.
 use mathlib.Core.Path.{_≡_, refl}
 use mathlib.Core.List.{List, [], _∷_}
 use Prim.Native.Nat.{ℕ}
-use Rattle.error.specs.declared.Refusal.the-variants.{StrangeFile, NoCapture, OtherLink, CutFrame}
+use Rattle.error.specs.declared.Refusal.the-variants.{StrangeFile, NoCapture, OtherLink, CutFrame, UnknownWord, Unfinished, TooLarge}
 use Rattle.error.specs.Answer.{refused, done}
 use Rattle.capture.specs.declared.Tally.{Tally}
 use Rattle.capture.specs.declared.CountResult.the-variants.{Count, Refused}
 use Rattle.capture.specs.Counting.{none}
-use Rattle.pft.specs.Numbers.{countNumber, frameNumber}
+use Rattle.typing.specs.declared.TypeResult.the-variants as Typed
+use Rattle.pft.specs.Numbers.{countNumber, frameNumber, typeNumber}
 
 -- 3 of 5 frames are kept
 three : Tally
@@ -27,3 +28,12 @@ frames = frameNumber (done 60) ∷ frameNumber (refused NoCapture) ∷ frameNumb
 frames-are : frames ≡ (60 ∷ 0xc00000000 ∷ 0xe00000000 ∷ [])
 unfolding frames
 frames-are = refl
+
+types : List ℕ
+types =
+    typeNumber (Typed.Length 80) ∷ typeNumber (Typed.Refused UnknownWord 8) ∷ typeNumber (Typed.Refused Unfinished 11) ∷ typeNumber (Typed.Refused TooLarge 0)
+    ∷ typeNumber (Typed.Refused StrangeFile 0) ∷ []
+
+types-are : types ≡ (80 ∷ 0x1000000008 ∷ 0x110000000b ∷ 0x1200000000 ∷ 0x100000000 ∷ [])
+unfolding types
+types-are = refl

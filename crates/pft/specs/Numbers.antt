@@ -11,10 +11,12 @@ use Rattle.build.specs.declared.BuildResult.{BuildResult}
 use Rattle.build.specs.Build as Build
 use Rattle.capture.specs.declared.CountResult.{CountResult}
 use Rattle.capture.specs.Counting as Counting
+use Rattle.typing.specs.declared.TypeResult.{TypeResult}
+use Rattle.typing.specs.declared.TypeResult.the-variants.{Length, Refused}
 
 -- the number of this interface: a landing that adds to it raises it by one
 abbrev pub version : ℕ
-version = 3
+version = 4
 
 -- a refusal as "256 + refusal number"; 0 where there is none
 abbrev pub beyond : ℕ → ℕ
@@ -40,3 +42,8 @@ countNumber r = Counting.refusalOf r * 2 ^ 32 + Counting.framesIn r .kept
 abbrev pub frameNumber : Out ℕ → ℕ
 frameNumber (refused r) = numberOf r * 2 ^ 32
 frameNumber (done n) = n
+
+-- T-04, of a typed line: its file's bytes, or refusal × 2^32 + place
+abbrev pub typeNumber : TypeResult → ℕ
+typeNumber (Length n) = n
+typeNumber (Refused r place) = numberOf r * 2 ^ 32 + place

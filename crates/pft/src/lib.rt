@@ -5,6 +5,7 @@ use capture::FrameResult;
 use direct::DirectResult;
 use error::Refusal;
 use error::refusal_number;
+use typing::TypeResult;
 use vm::RunResult;
 use vm::verdict_number;
 ghost use mathlib.Core.Path.{_≡_};
@@ -17,9 +18,10 @@ ghost use Rattle.direct.specs.Direct.{direct};
 ghost use Rattle.build.specs.Build.{build};
 ghost use Rattle.capture.specs.Capture.{frameAt};
 ghost use Rattle.count.specs.Count.{count};
-ghost use Rattle.pft.specs.Numbers.{version, runNumber, buildNumber, directNumber, countNumber, frameNumber};
+ghost use Rattle.typing.specs.Typed.{typed};
+ghost use Rattle.pft.specs.Numbers.{version, runNumber, buildNumber, directNumber, countNumber, frameNumber, typeNumber};
 
-const VERSION: u32 = 3;
+const VERSION: u32 = 4;
 
 fn truth(b: bool) -> u32
     ensures { λ r. ⌜ r ≡ cond b 1 0 ⌝ }
@@ -72,7 +74,7 @@ pub extern "C" fn pft_run(program: &[u8], frame: &[u8]) -> u32
     }
 }
 
-// A refusal beside a count of frames or bytes.
+// A refusal beside a count of frames or bytes, or a place.
 fn beside(refusal: Refusal, n: u64) -> u64
     requires { ⌜ n + 2 ^ 40 ≤ 2 ^ 64 ⌝ }
     ensures { λ r. ⌜ r ≡ numberOf refusal * 2 ^ 32 + n ⌝ }
@@ -99,5 +101,16 @@ pub extern "C" fn pft_frame(capture: &[u8], at: usize) -> u64
     match capture::frame_at(capture, at) {
         FrameResult::Size(n) => n as u64,
         FrameResult::Refused(r) => beside(r, 0),
+    }
+}
+
+// The tree file of a typed line in 3,080 lent bytes, as one number.
+#[no_mangle]
+pub extern "C" fn pft_type(link: u8, text: &[u8], tree: &mut [u8; 3080]) -> u64
+    ensures { λ r. ⌜ (r ≡ typeNumber (typed link (now (text .entry)) .answer)) × (now (tree .exit) ≡ typed link (now (text .entry)) .tree) ⌝ }
+{
+    match type_line::type_line(link, text, tree) {
+        TypeResult::Length(n) => n as u64,
+        TypeResult::Refused(r, place) => beside(r, place as u64),
     }
 }

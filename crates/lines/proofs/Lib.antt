@@ -1,0 +1,4 @@
+pub mod Others
+pub mod Moves
+pub mod Lines
+pub mod Simulates

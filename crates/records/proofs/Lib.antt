@@ -1,0 +1,4 @@
+pub mod Ordered
+pub mod Slices
+pub mod Writes
+pub mod Records

@@ -1,0 +1,4 @@
+pub mod Whole
+pub mod Ranges
+pub mod Top
+pub mod Types

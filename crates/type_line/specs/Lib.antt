@@ -1,0 +1,2 @@
+pub mod Filed
+pub mod Types

@@ -1,0 +1,6 @@
+pub mod Places
+pub mod Spaces
+pub mod Examples
+pub mod Grammar
+pub mod Answers
+pub mod Passes

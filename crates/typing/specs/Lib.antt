@@ -1,0 +1,5 @@
+pub mod Words
+pub mod Phrase
+pub mod Finds
+pub mod Parse
+pub mod Typed
