@@ -1,13 +1,13 @@
 #!/usr/bin/env python3
-"""Makes the sample tree files, frames and captures of this folder. It needs python3.
+"""Makes the sample lines, tree files, frames and captures of this folder. It needs python3.
 
 samples/make.py           writes them, and the copies that the test programs use
 samples/make.py --check   compares what is there; ends with 1 if a file differs
 
 Below, a tree is said by constructors and a frame is put together from its
-headers. Beside each tree stand the frames of which it is true, by hand, and
-beside each capture that is refused how far it is read: samples/try.py asks
-bin/pft.
+headers. Beside each tree stand the frames of which it is true, by hand, beside
+some the line that is typed for it, and beside each line or capture that is
+refused how far it is read: samples/try.py asks bin/pft.
 """
 import ipaddress
 import pathlib
@@ -249,6 +249,10 @@ def far(last):
     return all_of(*[ETHER_MULTICAST] * 7, host("::", SOURCE), *hosts)
 
 
+CREW = all_of(
+    no(host("10.20.0.99")), any_of(port(5001, EITHER, UDP), port(502, DESTINATION, TCP), protocol(ICMP))
+)
+
 # Name: links, tree, the frames of which it is true.
 TREES = {
     "web": (EVERY, WEB_TREE, "tcp80 tcp80_options"),
@@ -270,6 +274,20 @@ TREES = {
     "chains": (TYPED, any_of(chain4(2), chain6(58)), "igmp icmp6"),
     "sctp": (EVERY, all_of(protocol(NUM, 132), port(2905, BOTH, SCTP)), "sctp"),
     "far_255": ((ETHERNET,), far(BOTH), ""),
+    "crew": (TYPED, CREW, f"drive modbus icmp {' '.join(COOKED)}"),
+    "from_left": (TYPED, all_of(any_of(protocol(ARP), protocol(UDP)), port(53)), "udp53"),
+    "brackets": (TYPED, any_of(protocol(ARP), all_of(protocol(UDP), port(53))), "arp udp53"),
+}
+
+# The trees that can be typed, each with its line.
+LINES = {
+    "web": "tcp and tcp dst port 80",
+    "dns": "port 53",
+    "not_ip": "not ip",
+    "host": "dst host 10.20.0.5",
+    "crew": "not host 10.20.0.99 and ( udp port 5001 or tcp dst port 502 or icmp )",
+    "from_left": "arp or udp and port 53",
+    "brackets": "arp or ( udp and port 53 )",
 }
 
 
@@ -295,6 +313,24 @@ REFUSED = {
     "far_256": (8, tree_file(ETHERNET, far(EITHER))),
     "cooked_host": (15, tree_file(SLL, any_of(ether_host(DRIVE, DESTINATION), protocol(TCP)))),
     "cooked_multicast": (15, tree_file(SLL, any_of(ETHER_MULTICAST, protocol(TCP)))),
+}
+
+# What could follow where a condition is to stand.
+CONDITION = "ip ip6 arp rarp icmp tcp udp sctp host port src dst ( not"
+
+# Lines that are refused: number, place or none, what could follow there, line.
+REFUSED_LINES = {
+    "prot": (16, 8, CONDITION, "tcp and prot 80"),
+    "no_spaces": (16, 4, CONDITION, "not (tcp or udp)"),
+    "zero": (16, 5, "a port number", "port 080"),
+    "symbols": (16, 4, "and or, the end", "arp && udp"),
+    "two_ports": (17, 11, CONDITION, "port 80 or 443"),
+    "tcp_host": (17, 4, "port src dst and or, the end", "tcp host 10.20.0.5"),
+    "number": (17, 9, "an address", "src host 80"),
+    "open": (17, 12, "port src dst ) and or", "( arp or udp"),
+    "nothing": (17, 0, CONDITION, ""),
+    "nots": (18, None, None, "not " * 128 + "ip"),
+    "deep": (18, None, None, "( " * 129 + "ip" + " )" * 129),
 }
 
 # The longest frame that is run, and one byte more: 10.
@@ -390,6 +426,11 @@ COPIES = {
 }
 
 
+def line_file(line):
+    """A line and its end, which a shell's "$(cat FILE)" leaves out."""
+    return line.encode() + b"\n"
+
+
 def samples():
     """Every file's path in this folder, and its bytes."""
     made = {}
@@ -397,7 +438,9 @@ def samples():
         made |= {f"{folder}/{name}.frame": data for name, data in frames(link).items()}
     for name, (links, tree, _) in TREES.items():
         made |= {f"{FOLDERS[link]}/{name}.pft": tree_file(link, tree) for link in links}
+    made |= {f"lines/{name}.line": line_file(line) for name, line in LINES.items()}
     made |= {f"refused/{name}.pft": data for name, (_, data) in REFUSED.items()}
+    made |= {f"refused/{name}.line": line_file(line) for name, (*_, line) in REFUSED_LINES.items()}
     made |= {f"refused/{name}.frame": bytes(length) for name, length in LONG_FRAMES.items()}
     made |= {f"refused/{name}": data for name, (*_, data) in refused_captures().items()}
     return made | captures()

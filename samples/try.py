@@ -6,7 +6,9 @@ samples/try.py
 Every tree is run over every frame of its link. The direct reading has to be
 what make.py says of the tree by hand, the verdict the same, but short on some
 of the frames that end early. The captures of these frames have to keep as many
-as are accepted. Then the trees and captures that are refused. The last line is
+as are accepted. A line has to give the file of its tree, and in that file's
+place the same answers. Then the trees, lines and captures that are refused. The
+last line is
 `N compared, M differences`; the status is 1 if M is not 0. What the command
 does with files and streams is tried by bin/test/command.py, and with captures
 of any size by bin/test/captures.py.
@@ -21,11 +23,15 @@ import make
 PFT = make.HERE.parent / "bin" / "pft"
 LINE = re.compile(r"(.*): (accepted|dropped|short|broken), steps (\d+), direct reading (true|false)")
 EARLY = set(make.CUTS) | {"empty"}
+LINK_NAMES = {make.ETHERNET: "ethernet", make.RAWIP: "raw", make.SLL: "cooked"}
+# How many characters of a line are shown.
+SHOWN = 72
 # What is refused with these is read directly all the same.
 READ_DIRECTLY = (5, 6, 7, 8, 15)
 WORDS = {
     1: "strange file", 2: "wrong count", 3: "bad record", 4: "not one tree", 5: "kind on raw", 6: "port protocol",
     7: "ether on raw", 8: "far jump", 12: "no capture", 13: "other link", 14: "cut frame", 15: "cooked address",
+    16: "unknown word", 17: "unfinished", 18: "too large",
 }  # fmt: skip
 
 
@@ -87,6 +93,43 @@ def try_trees(tally):
             try_captures(tally, folder, tree, kept, len(names))
 
 
+def try_line(tally, name, link):
+    """The file of a line, and each command with the line in the file's place."""
+    folder = make.HERE / make.FOLDERS[link]
+    tree, line = folder / f"{name}.pft", make.LINES[name]
+    for words in ((LINK_NAMES[link], line), (str(link), line)):
+        done = subprocess.run([PFT, "type", *words], capture_output=True)
+        here = (done.stdout, done.stderr, done.returncode)
+        tally.expect(f"pft type {words}", here, (tree.read_bytes(), b"", 0))
+    frames = sorted(map(str, folder.glob("*.frame")))
+    for command, files in (("list", []), ("run", frames), ("count", [str(folder / "all.pcap")])):
+        typed = run(command, "--type", *words, *files)
+        tally.expect(f"pft {command} --type {words}", typed, run(command, str(tree), *files))
+
+
+def try_lines(tally):
+    for name in make.LINES:
+        for link in make.TREES[name][0]:
+            try_line(tally, name, link)
+
+
+def told(number, place, follows, line):
+    """What is said of a line that is refused: a mark stands under the place, where it has one."""
+    message = f"refused {number}, {WORDS[number]}"
+    if place is None:
+        shown = line[:SHOWN] + "..." * (len(line) > SHOWN)
+        return [shown, f"{message}: over 128 records or over 128 brackets open at once"]
+    return [line, " " * place + "^", f"{message}, at byte {place}; here could follow: {follows}"]
+
+
+def try_refused_lines(tally):
+    frame = str(make.HERE / "ethernet" / "tcp80.frame")
+    for refused in make.REFUSED_LINES.values():
+        wanted, line = ([], told(*refused), 1), refused[-1]
+        tally.expect(f"pft type {line!r}", run("type", "ethernet", line), wanted)
+        tally.expect(f"pft run --type {line!r}", run("run", "--type", "ethernet", line, frame), wanted)
+
+
 def try_refused(tally):
     """Tcp80's direct reading is true of the trees that are refused with 5, 6, 7 and 15, and false of the far one."""
     for tree, (number, _) in make.REFUSED.items():
@@ -116,7 +159,7 @@ def main():
         print("usage: samples/try.py", file=sys.stderr)
         sys.exit(2)
     tally = Tally()
-    for part in (try_trees, try_refused, try_refused_captures):
+    for part in (try_trees, try_lines, try_refused, try_refused_lines, try_refused_captures):
         part(tally)
     print(f"{tally.compared} compared, {tally.differences} differences")
     sys.exit(1 if tally.differences else 0)

@@ -1,5 +1,6 @@
 /*
- * pft.h: classic BPF programs made from tree files, and their runs over frames and captures.
+ * pft.h: classic BPF programs made from typed lines and tree files, and their runs over frames and
+ * captures.
  *
  * Link with libpft.a, which `rt staticlib pft` writes to target/staticlib:
  *
@@ -12,12 +13,13 @@
  * write tree files, are tested and not proved.
  *
  * Slices. Every slice is a pointer and the number of its bytes; no alignment is asked.
- *   - The bytes must be readable (for `program` of pft_build and pft_count writable) during the
- *     call, and nothing else may write them. No other byte is read or written.
+ *   - The bytes must be readable (for `program` of pft_build and pft_count and `tree` of pft_type
+ *     writable) during the call, and nothing else may write them. No other byte is read or written.
  *   - A slice of 0 bytes may have any pointer, NULL too. NULL with another length is an error of
  *     the caller's, which no function tests.
- *   - `program` of pft_build and of pft_count must not overlap their other slices. All others,
- *     those of pft_run, `tree` and `capture` of pft_count and so on, may overlap.
+ *   - `program` of pft_build and of pft_count must not overlap their other slices, nor `tree` of
+ *     pft_type its text. All others, those of pft_run, `tree` and `capture` of pft_count and so on,
+ *     may overlap.
  *
  * Answers are one number, which functions below take apart.
  */
@@ -33,25 +35,28 @@ extern "C" {
 #endif
 
 /* The version of libpft.a that this header is for. Each addition to the interface raises it by one. */
-#define PFT_VERSION 3
+#define PFT_VERSION 4
 
 /* Why a call is refused. Later versions add numbers. */
 enum pft_refusal {
-    PFT_STRANGE_FILE = 1,   /* under 8 bytes, or mark, version or link differs */
-    PFT_WRONG_COUNT = 2,    /* count 0 or over 128, or length not 8 + 24 x count */
-    PFT_BAD_RECORD = 3,     /* unknown kind, direction or protocol, or an unused byte not zero */
-    PFT_NOT_ONE_TREE = 4,   /* prefix reading doesn't end exactly at the last record */
-    PFT_KIND_ON_RAW = 5,    /* RawIp, and an ethertype other than 0x0800 is to be tested */
-    PFT_PORT_PROTOCOL = 6,  /* port or range with a protocol other than 0, 5, 6, 10 */
-    PFT_ETHER_ON_RAW = 7,   /* RawIp with kind 17 or 19 */
-    PFT_FAR_JUMP = 8,       /* a resolved distance exceeds 255 */
-    PFT_SHORT_BUFFER = 9,   /* fewer than 8 x instructions bytes lent */
-    PFT_LONG_FRAME = 10,    /* frame over 65,535 bytes */
-    PFT_ODD_PROGRAM = 11,   /* program of length 0, over 32,768, or not a multiple of 8 */
-    PFT_NO_CAPTURE = 12,    /* a short header or other mark */
-    PFT_OTHER_LINK = 13,    /* the link isn't the tree's */
-    PFT_CUT_FRAME = 14,     /* a frame header or body runs past the file or is over 65,535 bytes */
-    PFT_COOKED_ADDRESS = 15 /* LinuxSll with kind 17 and a direction other than 1, or with kind 19 */
+    PFT_STRANGE_FILE = 1,    /* under 8 bytes, or mark, version or link differs */
+    PFT_WRONG_COUNT = 2,     /* count 0 or over 128, or length not 8 + 24 x count */
+    PFT_BAD_RECORD = 3,      /* unknown kind, direction or protocol, or an unused byte not zero */
+    PFT_NOT_ONE_TREE = 4,    /* prefix reading doesn't end exactly at the last record */
+    PFT_KIND_ON_RAW = 5,     /* RawIp, and an ethertype other than 0x0800 is to be tested */
+    PFT_PORT_PROTOCOL = 6,   /* port or range with a protocol other than 0, 5, 6, 10 */
+    PFT_ETHER_ON_RAW = 7,    /* RawIp with kind 17 or 19 */
+    PFT_FAR_JUMP = 8,        /* a resolved distance exceeds 255 */
+    PFT_SHORT_BUFFER = 9,    /* fewer than 8 x instructions bytes lent */
+    PFT_LONG_FRAME = 10,     /* frame over 65,535 bytes */
+    PFT_ODD_PROGRAM = 11,    /* program of length 0, over 32,768, or not a multiple of 8 */
+    PFT_NO_CAPTURE = 12,     /* a short header or other mark */
+    PFT_OTHER_LINK = 13,     /* the link isn't the tree's */
+    PFT_CUT_FRAME = 14,      /* a frame header or body runs past the file or is over 65,535 bytes */
+    PFT_COOKED_ADDRESS = 15, /* LinuxSll with kind 17 and a direction other than 1, or with kind 19 */
+    PFT_UNKNOWN_WORD = 16,   /* a typed word that is none, and no address or port number either */
+    PFT_UNFINISHED = 17,     /* a typed word that can't follow, or the line's end where more has to */
+    PFT_TOO_LARGE = 18       /* a typed line of over 128 records, or with over 128 brackets open at once */
 };
 
 /* How a run ends. */
@@ -78,7 +83,7 @@ enum pft_verdict {
 /*
  * The stack that a call may take, in bytes. Measured: a build 56,700 for one record and 139,800
  * for 127 nots over one, which is the deepest tree, a count 200 more than its build; a direct
- * reading 24,700; a run or a frame below 600.
+ * reading 24,700; a typed line 3,300, whatever it is; a run or a frame below 600.
  */
 #define PFT_STACK ((size_t)262144)
 
@@ -147,6 +152,24 @@ uint64_t pft_count(const uint8_t *tree, size_t tree_length, uint8_t *program, si
  */
 uint64_t pft_frame(const uint8_t *capture, size_t capture_length, size_t at);
 
+/*
+ * Writes the tree file of a typed line, as "tcp and not dst port 80", for a link: an enum pft_link, or
+ * any other byte. The words of a line are separated by spaces and by nothing else; docs/FORMAT.md has
+ * them, and how their meaning departs from tcpdump's. The text may be of any length, hold any bytes,
+ * and needs no NUL.
+ *
+ * `tree` has PFT_TREE_MAX bytes, all of which are written: the file from its start, and zero after
+ * its end. A refusal sets all of them to zero.
+ *
+ * Answer: the file's length in bytes, 8 + 24 x records. Refused: refusal x 2^32 + place, namely
+ *   - with PFT_STRANGE_FILE for another link than 1 to 3, before the text is read; the place is 0;
+ *   - then at the earliest place with PFT_UNKNOWN_WORD or PFT_UNFINISHED, the place being the byte,
+ *     from 0 on, where the word at fault starts, or the text's length where more has to follow;
+ *   - then with PFT_TOO_LARGE; the place is 0.
+ * From 2^32 bytes of text on the sum does not tell refusal and place apart.
+ */
+uint64_t pft_type(uint8_t link, const uint8_t *text, size_t text_length, uint8_t *tree);
+
 /* ---- answers taken apart; a refusal is 0 where there is none */
 
 static inline unsigned pft_build_refusal(uint32_t answer)
@@ -209,6 +232,23 @@ static inline size_t pft_frame_length(uint64_t answer)
     return (uint32_t)answer;
 }
 
+static inline unsigned pft_type_refusal(uint64_t answer)
+{
+    return (unsigned)(answer >> 32);
+}
+
+/* The file's length in bytes; 0 for a refused line. */
+static inline size_t pft_type_length(uint64_t answer)
+{
+    return pft_type_refusal(answer) == 0 ? (uint32_t)answer : 0;
+}
+
+/* The byte of the text where PFT_UNKNOWN_WORD or PFT_UNFINISHED is met; 0 for every other answer. */
+static inline size_t pft_type_place(uint64_t answer)
+{
+    return pft_type_refusal(answer) == 0 ? 0 : (uint32_t)answer;
+}
+
 /* ---- words */
 
 /* The word of a refusal, for any number: one of a later version is an "unknown refusal". */
@@ -231,6 +271,9 @@ static inline const char *pft_refusal_word(unsigned refusal)
     case PFT_OTHER_LINK: return "other link";
     case PFT_CUT_FRAME: return "cut frame";
     case PFT_COOKED_ADDRESS: return "cooked address";
+    case PFT_UNKNOWN_WORD: return "unknown word";
+    case PFT_UNFINISHED: return "unfinished";
+    case PFT_TOO_LARGE: return "too large";
     default: return "unknown refusal";
     }
 }
@@ -308,8 +351,15 @@ static inline int pft_next(struct pft_frames *frames)
 /*
  * ---- tree files written
  *
- * A file is started and its records are added in prefix order: a join, then its left part, then
- * its right part. "tcp and not dst port 80":
+ * A file comes from a typed line,
+ *
+ *     struct pft_tree tree;
+ *     answer = pft_type_tree(&tree, PFT_ETHERNET, "tcp and not dst port 80");
+ *     if (pft_type_refusal(answer) != 0)
+ *         printf("%*s\n", (int)pft_type_place(answer) + 1, "^");
+ *
+ * or is started, and its records are added in prefix order: a join, then its left part, then its
+ * right part. The same tree:
  *
  *     struct pft_tree tree;
  *     pft_start(&tree, PFT_ETHERNET);
@@ -399,6 +449,18 @@ static inline void pft_put16(uint8_t *place, uint16_t number)
 {
     place[0] = (uint8_t)(number >> 8);
     place[1] = (uint8_t)number;
+}
+
+/*
+ * Writes the file of a typed line that ends with a NUL; the answer is that of pft_type. A refused
+ * line leaves a file of no bytes, which a build refuses with PFT_STRANGE_FILE.
+ */
+static inline uint64_t pft_type_tree(struct pft_tree *tree, enum pft_link link, const char *line)
+{
+    uint64_t answer = pft_type((uint8_t)link, (const uint8_t *)line, strlen(line), tree->bytes);
+
+    tree->length = pft_type_length(answer);
+    return answer;
 }
 
 /* A file without records. */

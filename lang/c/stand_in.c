@@ -1,7 +1,7 @@
 /*
  * A stand-in for libpft.a of another version, which refuses every call with a number that has no
  * word. Without VERSION it is an archive from before there was one; that of version 1 knows no
- * captures.
+ * captures, and those of 1 to 3 type no lines.
  */
 #include "pft.h"
 
@@ -43,6 +43,14 @@ uint64_t pft_count(const uint8_t *tree, size_t tree_length, uint8_t *program, si
 uint64_t pft_frame(const uint8_t *capture, size_t capture_length, size_t at)
 {
     (void)capture, (void)capture_length, (void)at;
+    return (uint64_t)REFUSAL << 32;
+}
+#endif
+
+#if !defined VERSION || VERSION < 1 || VERSION > 3
+uint64_t pft_type(uint8_t link, const uint8_t *text, size_t text_length, uint8_t *tree)
+{
+    (void)link, (void)text, (void)text_length, (void)tree;
     return (uint64_t)REFUSAL << 32;
 }
 #endif

@@ -330,7 +330,7 @@ static void words(void)
     TEST(strcmp(pft_verdict_word(0), "no verdict") == 0);
     TEST(strcmp(pft_verdict_word(5), "unknown verdict") == 0);
     TEST(strcmp(pft_refusal_word(0), "not refused") == 0);
-    TEST(strcmp(pft_refusal_word(16), "unknown refusal") == 0);
+    TEST(strcmp(pft_refusal_word(19), "unknown refusal") == 0);
     TEST(strcmp(pft_refusal_word(65535), "unknown refusal") == 0);
 }
 

@@ -4,7 +4,7 @@
 use std::path::{Path, PathBuf};
 
 /// What earlier archives lack, in the order in which it came.
-const ADDED: [&str; 3] = ["pft_version", "pft_count", "pft_frame"];
+const ADDED: [&str; 4] = ["pft_version", "pft_count", "pft_frame", "pft_type"];
 
 fn folder() -> PathBuf {
     match std::env::var_os("PFT_LIB_DIR") {

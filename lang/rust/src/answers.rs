@@ -2,6 +2,11 @@
 
 use core::fmt;
 
+use crate::MAX_TREE;
+
+/// The smallest tree file: 8 bytes and one record.
+const MIN_TREE: usize = 32;
+
 /// Why a call is refused.
 ///
 /// Later versions add refusals. A number that this version does not know is an
@@ -39,6 +44,12 @@ pub enum Refusal {
     CutFrame = 14,
     /// 15: LinuxSll with ether multicast, or with an ether host of another direction than source.
     CookedAddress = 15,
+    /// 16: a typed word that is none, and no address or port number either.
+    UnknownWord = 16,
+    /// 17: a typed word that can't follow those before it, or the line's end where more has to.
+    Unfinished = 17,
+    /// 18: a typed line of over 128 records, or with over 128 brackets open at once.
+    TooLarge = 18,
 }
 
 impl Refusal {
@@ -59,6 +70,9 @@ impl Refusal {
         Refusal::OtherLink,
         Refusal::CutFrame,
         Refusal::CookedAddress,
+        Refusal::UnknownWord,
+        Refusal::Unfinished,
+        Refusal::TooLarge,
     ];
 
     /// Its number.
@@ -92,6 +106,9 @@ impl Refusal {
             Refusal::OtherLink => "other link",
             Refusal::CutFrame => "cut frame",
             Refusal::CookedAddress => "cooked address",
+            Refusal::UnknownWord => "unknown word",
+            Refusal::Unfinished => "unfinished",
+            Refusal::TooLarge => "too large",
         }
     }
 }
@@ -345,6 +362,16 @@ pub(crate) fn framed(answer: u64) -> Result<usize, Error> {
     }
 }
 
+/// The file's length, or refusal × 2^32 + place: the error and its place.
+pub(crate) fn typed(answer: u64) -> Result<usize, (Error, usize)> {
+    let low = (answer & 0xffff_ffff) as usize;
+    match (answer >> 32) as u32 {
+        0 if (MIN_TREE..=MAX_TREE).contains(&low) => Ok(low),
+        0 => Err((Error::UnknownAnswer(low as u32), 0)),
+        refusal => Err((refused(refusal), low)),
+    }
+}
+
 /// Whether an archive of a version has all that this crate calls: versions only add.
 pub(crate) fn serves(version: u32) -> Result<(), Error> {
     if version < crate::VERSION {
@@ -444,6 +471,27 @@ mod tests {
         for number in unknown(u32::MAX) {
             let error = Error::UnknownRefusal(number);
             assert_eq!(framed(u64::from(number) << 32), Err(error));
+        }
+    }
+
+    #[test]
+    fn numbers_of_typed_lines() {
+        for length in [MIN_TREE, 56, MAX_TREE] {
+            assert_eq!(typed(length as u64), Ok(length));
+        }
+        for length in [0, 1, MIN_TREE - 1, MAX_TREE + 1, 0xffff_ffff] {
+            let error = Error::UnknownAnswer(length as u32);
+            assert_eq!(typed(length as u64), Err((error, 0)));
+        }
+        for place in [0, 1, 0xffff_ffff] {
+            let typed_of = |number| typed((u64::from(number) << 32) + place as u64);
+            for &refusal in Refusal::ALL {
+                assert_eq!(typed_of(refusal.number()), Err((refusal.into(), place)));
+            }
+            for number in unknown(u32::MAX) {
+                let error = Error::UnknownRefusal(number);
+                assert_eq!(typed_of(number), Err((error, place)));
+            }
         }
     }
 

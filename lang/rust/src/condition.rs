@@ -12,8 +12,11 @@ use crate::{Part, Record, MAX_RECORDS};
 /// use dabberpearl::conditions::*;
 ///
 /// let web = protocol(Tcp).and(port(Destination, Tcp, 80).or(port(Destination, Tcp, 443)));
-/// assert_eq!(web.to_string(), "tcp and (tcp dst port 80 or tcp dst port 443)");
-/// assert_eq!(web.not().to_string(), "not (tcp and (tcp dst port 80 or tcp dst port 443))");
+/// assert_eq!(web.to_string(), "tcp and ( tcp dst port 80 or tcp dst port 443 )");
+/// assert_eq!(
+///     web.not().to_string(),
+///     "not ( tcp and ( tcp dst port 80 or tcp dst port 443 ) )"
+/// );
 /// ```
 ///
 /// A list is joined by `reduce`, which gives none for an empty one:

@@ -1,5 +1,7 @@
 //! The functions of libpft.a. A slice is passed as pointer and length.
 
+use crate::MAX_TREE;
+
 mod c {
     #[link(name = "pft", kind = "static")]
     extern "C" {
@@ -30,6 +32,7 @@ mod c {
             capture_length: usize,
         ) -> u64;
         pub fn pft_frame(capture: *const u8, capture_length: usize, at: usize) -> u64;
+        pub fn pft_type(link: u8, text: *const u8, text_length: usize, tree: *mut u8) -> u64;
         pub fn pft_version() -> u32;
     }
 }
@@ -78,6 +81,13 @@ pub fn frame(capture: &[u8], at: usize) -> u64 {
     // SAFETY: pointer and length are those of a slice which lives through the call; the function
     // writes and keeps nothing, and takes any `at`.
     unsafe { c::pft_frame(capture.as_ptr(), capture.len(), at) }
+}
+
+pub fn type_line(link: u8, line: &[u8], tree: &mut [u8; MAX_TREE]) -> u64 {
+    // SAFETY: pointer and length are those of a slice which lives through the call, `tree` has the
+    // bytes that the function writes, is lent mutably and so overlaps nothing, and the function
+    // keeps neither.
+    unsafe { c::pft_type(link, line.as_ptr(), line.len(), tree.as_mut_ptr()) }
 }
 
 pub fn version() -> u32 {

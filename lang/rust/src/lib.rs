@@ -1,7 +1,7 @@
 //! Classic BPF programs made from trees of conditions, and their runs over frames and captures.
 //!
-//! A [`Tree`] holds conditions on a frame, joined by and, or and not. [`Program::from_tree`] turns
-//! it into a program, [`Program::run`] runs that over a frame, and [`Tree::holds`] reads the tree
+//! A [`Tree`] holds conditions on a frame, joined by and, or and not; [`Tree::typed`] reads them from
+//! a line of text. [`Program::from_tree`] turns it into a program, [`Program::run`] runs that over a frame, and [`Tree::holds`] reads the tree
 //! on a frame without one. [`Tree::count`] tells how many frames of a classic pcap file the tree
 //! accepts, and [`frames`] gives them one by one.
 //!
@@ -26,10 +26,11 @@
 //! # Ok::<(), dabberpearl::Error>(())
 //! ```
 //!
-//! [`build`], [`run`], [`direct`] and [`count`] do the same with bytes of the caller's. All four
-//! are Rattle, proved equal to their definitions for all inputs, and linked from `libpft.a`; this
-//! crate is their safe face. What it adds, the making and taking apart of trees and answers, the
-//! step from a frame to the next and the calls themselves, is tested and not proved.
+//! [`type_line`], [`build`], [`run`], [`direct`] and [`count`] do the same with bytes of the caller's.
+//! All five are Rattle, proved equal to their definitions for all inputs, and linked from `libpft.a`;
+//! this crate is their safe face. What it adds, the making and taking apart of trees and answers, the
+//! step from a frame to the next, what could follow in a line and the calls themselves, is tested and
+//! not proved.
 //!
 //! What is proved of an accepted tree, in short: its program has 2 to 3,946 instructions, all
 //! jumps lead forward, and a run takes no more steps than that. Where a run is not
@@ -63,6 +64,7 @@ mod program;
 mod record;
 mod terms;
 mod tree;
+mod typing;
 
 pub use answers::{Counted, Error, Outcome, Refusal, Verdict};
 pub use capture::Frames;
@@ -71,6 +73,7 @@ pub use program::{Instruction, Instructions, Program};
 pub use record::Record;
 pub use terms::{Direction, Link, Mac, NoMac, Protocol};
 pub use tree::{Part, Records, Tree};
+pub use typing::TypeError;
 
 // The examples of the README are tests.
 #[cfg(doctest)]
@@ -79,7 +82,7 @@ struct Readme;
 
 /// The version of libpft.a that this crate is made for. Each addition to the interface raises it
 /// by one.
-pub const VERSION: u32 = 3;
+pub const VERSION: u32 = 4;
 
 /// The most records of a tree.
 pub const MAX_RECORDS: usize = 128;
@@ -105,8 +108,9 @@ pub fn archive_version() -> u32 {
 }
 
 /// Whether the libpft.a that is linked has all that this crate calls: its version is [`VERSION`]
-/// or a later one. [`Program::from_tree`], [`Tree::count`] and the reading of a [`Tree`] ask this;
-/// who calls [`build`], [`run`], [`direct`], [`count`] or [`frames`] asks once.
+/// or a later one. [`Program::from_tree`], [`Tree::typed`], [`Tree::count`] and the reading of a
+/// [`Tree`] ask this; who calls [`type_line`], [`build`], [`run`], [`direct`], [`count`] or
+/// [`frames`] asks once.
 ///
 /// # Errors
 ///
@@ -117,6 +121,34 @@ pub fn archive_version() -> u32 {
 /// ```
 pub fn check_archive() -> Result<(), Error> {
     answers::serves(archive_version())
+}
+
+/// Writes the tree file of a typed line for a link's byte into a lent array, and answers the file's
+/// length. All of the array is written: zero after the file's end. [`Tree::typed`] lends one, and has
+/// the words.
+///
+/// # Errors
+///
+/// [`StrangeFile`](Refusal::StrangeFile) for another byte than 1 to 3, before the line is read; then
+/// [`UnknownWord`](Refusal::UnknownWord) or [`Unfinished`](Refusal::Unfinished), whichever stands
+/// first; then [`TooLarge`](Refusal::TooLarge). The whole array is zero after each.
+///
+/// In a line of 4 GiB or more libpft.a does not tell a place from a refusal.
+///
+/// ```
+/// use dabberpearl::{type_line, Refusal, MAX_TREE};
+///
+/// let mut tree = [0xff; MAX_TREE];
+/// assert_eq!(type_line(1, b"not ip", &mut tree), Ok(8 + 2 * 24));
+/// assert_eq!(tree[..9], [b'P', b'F', b'T', 0, 1, 1, 0, 2, 3]);
+///
+/// let error = type_line(4, b"not ip", &mut tree).unwrap_err();
+/// assert_eq!(error.refusal(), Some(Refusal::StrangeFile));
+/// assert_eq!(tree, [0; MAX_TREE]);
+/// ```
+pub fn type_line(link: u8, line: &[u8], tree: &mut [u8; MAX_TREE]) -> Result<usize, TypeError> {
+    answers::typed(ffi::type_line(link, line, tree))
+        .map_err(|(error, place)| TypeError::of(link, line, error, place))
 }
 
 /// Builds the program of a tree file into a lent buffer, and answers the count of its

@@ -6,8 +6,8 @@ use core::slice;
 
 use crate::record::RECORD;
 use crate::{
-    check_archive, count, direct, Condition, Counted, Error, Link, Record, Refusal, MAX_PROGRAM,
-    MAX_TREE,
+    check_archive, count, direct, type_line, Condition, Counted, Error, Link, Record, Refusal,
+    TypeError, MAX_PROGRAM, MAX_TREE,
 };
 
 /// The bytes before the first record.
@@ -80,6 +80,50 @@ impl Tree {
         bytes[LINK_PLACE] = link as u8;
         bytes[COUNT_PLACE..HEADER].copy_from_slice(&count.to_be_bytes());
         bytes[HEADER..length].copy_from_slice(records);
+        Ok(Tree {
+            bytes,
+            length,
+            link,
+        })
+    }
+
+    /// The tree of a typed line: words in any number of spaces.
+    ///
+    /// They are `ip`, `ip6`, `arp`, `rarp`, `icmp`, `tcp`, `udp`, `sctp`; `host` with an IPv4 address,
+    /// `port` with a number, `src` or `dst` before these, `tcp`, `udp` or `sctp` before `port` or its
+    /// direction; `(`, `)`, `not`, `and`, `or`. `not` binds tightest, `and` and `or` bind equally and
+    /// join from the left.
+    ///
+    /// They are those of pcap-filter but mean less: **`tcp`, `udp` and `sctp` alone are IPv4, `port`
+    /// leaves SCTP out, `host` leaves ARP and RARP out** (docs/FORMAT.md).
+    ///
+    /// # Errors
+    ///
+    /// [`UnknownWord`](Refusal::UnknownWord) and [`Unfinished`](Refusal::Unfinished), whichever stands
+    /// first, with its place; [`TooLarge`](Refusal::TooLarge) of a line without either.
+    /// [`OldArchive`](Error::OldArchive) where [`check_archive`] says so.
+    ///
+    /// ```
+    /// use dabberpearl::{conditions::*, Link, Refusal, Tree};
+    ///
+    /// let line = "( udp or sctp ) and not src host 10.20.0.5";
+    /// let tree = Tree::typed(Link::Ethernet, line)?;
+    /// assert_eq!(tree.to_string(), format!("Ethernet: {line}"));
+    ///
+    /// let left = Tree::typed(Link::Ethernet, "ip or udp and port 53")?;
+    /// assert_eq!(left.to_string(), "Ethernet: ( ip or udp ) and port 53");
+    /// let same = Tree::ethernet(protocol(Ip).or(protocol(Udp)).and(port(Either, None, 53)))?;
+    /// assert_eq!(left, same);
+    ///
+    /// let error = Tree::typed(Link::Ethernet, "host 80").unwrap_err();
+    /// assert_eq!(error.refusal(), Some(Refusal::Unfinished));
+    /// assert_eq!(error.place(), Some(5));
+    /// # Ok::<(), dabberpearl::Error>(())
+    /// ```
+    pub fn typed(link: Link, line: impl AsRef<[u8]>) -> Result<Tree, TypeError> {
+        check_archive()?;
+        let mut bytes = [0; MAX_TREE];
+        let length = type_line(link as u8, line.as_ref(), &mut bytes)?;
         Ok(Tree {
             bytes,
             length,
@@ -252,7 +296,7 @@ impl fmt::Debug for Tree {
 /// let right = tree.root().right().unwrap();
 /// assert_eq!(right.to_string(), "tcp port 80 or tcp port 443");
 /// let others = Tree::ethernet(Condition::from(right).not())?;
-/// assert_eq!(others.to_string(), "Ethernet: not (tcp port 80 or tcp port 443)");
+/// assert_eq!(others.to_string(), "Ethernet: not ( tcp port 80 or tcp port 443 )");
 /// # Ok::<(), dabberpearl::Error>(())
 /// ```
 #[derive(Clone, Copy, PartialEq, Eq, Hash)]
@@ -325,14 +369,15 @@ fn part_at(bytes: &[u8], place: usize) -> Option<Part<'_>> {
 fn write_inner(f: &mut fmt::Formatter<'_>, part: Part<'_>, plain: Record) -> fmt::Result {
     let record = part.record();
     if below(record) == 2 && record != plain {
-        write!(f, "({part})")
+        write!(f, "( {part} )")
     } else {
         write!(f, "{part}")
     }
 }
 
 /// The part in the words of pcap-filter. Joins of the same kind stand without brackets where they
-/// are joined from the left.
+/// are joined from the left. Where the words are those of [`Tree::typed`], typing them gives the part
+/// again.
 impl fmt::Display for Part<'_> {
     fn fmt(&self, f: &mut fmt::Formatter<'_>) -> fmt::Result {
         let record = self.record();

@@ -207,15 +207,15 @@ fn brackets() {
     let b = || port(Either, None, 1);
     for (condition, words) in [
         (a().and(b()).and(a()), "tcp and port 1 and tcp"),
-        (a().and(b().and(a())), "tcp and (port 1 and tcp)"),
+        (a().and(b().and(a())), "tcp and ( port 1 and tcp )"),
         (a().or(b()).or(a()), "tcp or port 1 or tcp"),
-        (a().or(b()).and(a()), "(tcp or port 1) and tcp"),
-        (a().or(b().and(a())), "tcp or (port 1 and tcp)"),
-        (a().and(b()).or(a()), "(tcp and port 1) or tcp"),
+        (a().or(b()).and(a()), "( tcp or port 1 ) and tcp"),
+        (a().or(b().and(a())), "tcp or ( port 1 and tcp )"),
+        (a().and(b()).or(a()), "( tcp and port 1 ) or tcp"),
         (a().not().and(b().not()), "not tcp and not port 1"),
-        (a().and(b()).not(), "not (tcp and port 1)"),
+        (a().and(b()).not(), "not ( tcp and port 1 )"),
         (a().not().not(), "not not tcp"),
-        (a().or(b()).not().or(a()), "not (tcp or port 1) or tcp"),
+        (a().or(b()).not().or(a()), "not ( tcp or port 1 ) or tcp"),
     ] {
         assert_eq!(condition.to_string(), words);
         assert_eq!(format!("{condition:?}"), format!("Condition({words})"));

@@ -15,10 +15,13 @@ pub const BOTH: u8 = 3;
 pub const NONE: u8 = 0;
 pub const IP: u8 = 1;
 pub const IP6: u8 = 2;
+pub const ARP: u8 = 3;
+pub const RARP: u8 = 4;
 pub const TCP: u8 = 5;
 pub const UDP: u8 = 6;
 pub const ICMP: u8 = 7;
 pub const ICMP6: u8 = 8;
+pub const SCTP: u8 = 10;
 
 pub type Record = [u8; 24];
 
@@ -38,6 +41,13 @@ pub fn port(direction: u8, p: u8, number: u16) -> Vec<Record> {
     let mut r = record(15);
     (r[1], r[2]) = (direction, p);
     r[4..6].copy_from_slice(&number.to_be_bytes());
+    vec![r]
+}
+
+pub fn host(direction: u8, address: [u8; 4]) -> Vec<Record> {
+    let mut r = record(11);
+    r[1] = direction;
+    r[8..12].copy_from_slice(&address);
     vec![r]
 }
 
