@@ -1,4 +1,4 @@
-"""The notation of docs/DIFFERENCES.md: trees, frames and programs as bytes."""
+"""The notation of docs/DIFFERENCES.md: trees, lines, frames and programs as bytes."""
 import re
 
 RECORD = 24
@@ -15,6 +15,12 @@ def tree(text):
     """`1: 03 0a0001`: link, colon, records."""
     link, records = text.split(":")
     return tree_file(int(link), records.split())
+
+
+def line(text):
+    """`1: not ip`: link, colon, a space, the line."""
+    link, words = text.split(": ", 1)
+    return int(link), words.encode()
 
 
 def frame(text):

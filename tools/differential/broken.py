@@ -1354,6 +1354,581 @@ CAPTURES = [
     ),
 ]
 
+
+def misread(line):
+    """Another line is read where a line has a fault and the other has none."""
+    return f"""let words = words_of(text).or_else(|fault| {{
+        let line = String::from_utf8_lossy(text);
+        words_of({line}.as_bytes()).map_err(|_| fault)
+    }})?;"""
+
+
+def sized_first(limit):
+    """18 for all known words of a line, before 16 and 17."""
+    return f"""let all: Vec<Word> = words(text).iter().filter_map(|(_, word)| known(word)).collect();
+    if size(&all).{limit} > MOST {{
+        return refused(TOO_LARGE);
+    }}
+    let words = words_of(text)?;"""
+
+
+def loosest(join, other):
+    """One of the joins binds more loosely than the other."""
+    return f"""let outside = |at: &usize| {{
+        let brackets = words[..*at].iter();
+        brackets.fold(0, |n, w| n + (*w == Open) as i32 - (*w == Close) as i32) == 0
+    }};
+    let last = |join| (0..words.len()).rev().filter(outside).find(|at| words[*at] == join);
+    let part: fn(&[Word]) -> Option<Phrase> = if last({join}).is_some() {{ phrase }} else {{ part }};
+    let Some(at) = last({join}).or(last({other})) else {{"""
+
+
+PORT_NUMBER = """let number = text.parse::<u16>().ok()?;
+    (number.to_string() == text).then_some(Number(number))"""
+ADDRESS = """let address = text.parse::<Ipv4Addr>().ok()?;
+    (address.to_string() == text).then_some(Address(address.octets()))"""
+SIDES_OF_A_JOIN = """let left = Box::new(phrase(&words[..at])?);
+    let right = Box::new(part(&words[at + 1..])?);"""
+
+# The second parser, and what T-04 says of the answer and the tree.
+TYPING = [
+    (
+        "and binds tighter than or",
+        "typing",
+        "let Some(at) = last_join(words) else {",
+        loosest("Or", "And"),
+    ),
+    (
+        "or binds tighter than and",
+        "typing",
+        "let Some(at) = last_join(words) else {",
+        loosest("And", "Or"),
+    ),
+    (
+        "joins go from the right",
+        "typing",
+        SIDES_OF_A_JOIN,
+        """let mut depth = 0;
+    let at = words[..at].iter().position(|word| {
+        depth += (*word == Open) as i32 - (*word == Close) as i32;
+        depth == 0 && matches!(word, And | Or)
+    }).unwrap_or(at);
+    let left = Box::new(phrase(&words[..at])?);
+    let right = Box::new(phrase(&words[at + 1..])?);""",
+    ),
+    (
+        "the sides of a join are exchanged",
+        "typing",
+        SIDES_OF_A_JOIN,
+        """let right = Box::new(phrase(&words[..at])?);
+    let left = Box::new(part(&words[at + 1..])?);""",
+    ),
+    (
+        "not goes over a whole join",
+        "typing",
+        "let Some(at) = last_join(words) else {",
+        """if let [Not, rest @ ..] = words {
+        return Some(Phrase::Not(Box::new(phrase(rest)?)));
+    }
+    let Some(at) = last_join(words) else {""",
+    ),
+    (
+        "two nots are none",
+        "typing",
+        "[Not, rest @ ..] => Some(Phrase::Not(Box::new(part(rest)?))),",
+        """[Not, Not, rest @ ..] => part(rest),
+        [Not, rest @ ..] => Some(Phrase::Not(Box::new(part(rest)?))),""",
+    ),
+    (
+        "and is or",
+        "typing",
+        """And => Phrase::And(left, right),
+        _ => Phrase::Or(left, right),""",
+        "_ => Phrase::Or(left, right),",
+    ),
+    (
+        "a port's leading zero is taken",
+        "typing",
+        PORT_NUMBER,
+        """let number = text.parse::<u16>().ok()?;
+    (!text.starts_with('+')).then_some(Number(number))""",
+    ),
+    (
+        "a port's sign is taken",
+        "typing",
+        "(number.to_string() == text).then_some(Number(number))",
+        "(number.to_string() == text.trim_start_matches('+')).then_some(Number(number))",
+    ),
+    (
+        "port 65,536 is taken",
+        "typing",
+        PORT_NUMBER,
+        """let number = text.parse::<u32>().ok().filter(|n| *n <= 65_536)?;
+    (number.to_string() == text).then_some(Number(number as u16))""",
+    ),
+    (
+        "port 65,535 is not taken",
+        "typing",
+        "let number = text.parse::<u16>().ok()?;",
+        "let number = text.parse::<u16>().ok().filter(|n| *n < 65_535)?;",
+    ),
+    (
+        "port 0 is not taken",
+        "typing",
+        "let number = text.parse::<u16>().ok()?;",
+        "let number = text.parse::<u16>().ok().filter(|n| *n > 0)?;",
+    ),
+    (
+        "a port's number wraps at 2^32",
+        "typing",
+        PORT_NUMBER,
+        """let number = text.parse::<u128>().ok()?;
+    let port = u16::try_from(number as u32).ok()?;
+    (number.to_string() == text).then_some(Number(port))""",
+    ),
+    (
+        "a port's number wraps at 2^64",
+        "typing",
+        PORT_NUMBER,
+        """let number = text.parse::<u128>().ok()?;
+    let port = u16::try_from(number as u64).ok()?;
+    (number.to_string() == text).then_some(Number(port))""",
+    ),
+    (
+        "port 5004 is read as 5005",
+        "typing",
+        "(number.to_string() == text).then_some(Number(number))",
+        "(number.to_string() == text).then_some(Number(number + (number == 5004) as u16))",
+    ),
+    (
+        "an address's leading zero is taken",
+        "typing",
+        ADDRESS,
+        """let parts = text.split('.').map(|part| part.parse::<u8>().ok());
+    let parts: Vec<u8> = parts.collect::<Option<_>>()?;
+    let address = <[u8; 4]>::try_from(parts).ok().filter(|_| !text.contains('+'))?;
+    Some(Address(address))""",
+    ),
+    (
+        "256 is taken in an address",
+        "typing",
+        ADDRESS,
+        """let parts = text.split('.').map(|part| part.parse::<u16>().ok().filter(|n| *n <= 256));
+    let parts: Vec<u16> = parts.collect::<Option<_>>()?;
+    let same = parts.iter().map(u16::to_string).collect::<Vec<_>>().join(".") == text;
+    let address = <[u16; 4]>::try_from(parts).ok().filter(|_| same)?;
+    Some(Address(address.map(|n| n as u8)))""",
+    ),
+    (
+        "255 is not taken at an address's end",
+        "typing",
+        "let address = text.parse::<Ipv4Addr>().ok()?;",
+        "let address = text.parse::<Ipv4Addr>().ok().filter(|a| a.octets()[3] < 255)?;",
+    ),
+    (
+        "an address of three parts is taken",
+        "typing",
+        "let address = text.parse::<Ipv4Addr>().ok()?;",
+        """let four = match text.split('.').count() {
+        3 => format!("{text}.0"),
+        _ => text.into(),
+    };
+    let (address, text) = (four.parse::<Ipv4Addr>().ok()?, four);""",
+    ),
+    (
+        "an address's last dot is taken",
+        "typing",
+        "let address = text.parse::<Ipv4Addr>().ok()?;",
+        """let text = text.strip_suffix('.').unwrap_or(text);
+    let address = text.parse::<Ipv4Addr>().ok()?;""",
+    ),
+    (
+        "a tab is a space",
+        "typing",
+        "text.split(|byte| *byte == SPACE)",
+        "text.split(|byte| *byte == SPACE || *byte == b'\\t')",
+    ),
+    (
+        "a line feed is a space",
+        "typing",
+        "text.split(|byte| *byte == SPACE)",
+        "text.split(|byte| *byte == SPACE || *byte == b'\\n')",
+    ),
+    (
+        "a line ends at a zero byte",
+        "typing",
+        "text.split(|byte| *byte == SPACE)",
+        "text.split(|byte| *byte == 0).next().unwrap_or(text).split(|byte| *byte == SPACE)",
+    ),
+    (
+        "capitals are small letters",
+        "typing",
+        "let words = words_of(text)?;",
+        misread("line.to_ascii_lowercase()"),
+    ),
+    (
+        "brackets need no spaces",
+        "typing",
+        "let words = words_of(text)?;",
+        misread("line.replace('(', \" ( \").replace(')', \" ) \")"),
+    ),
+    (
+        "an empty line is taken",
+        "typing",
+        "let words = words_of(text)?;",
+        misread("(if line.trim().is_empty() { \"ip\" } else { \"\" })"),
+    ),
+    (
+        "a bracket may stay open",
+        "typing",
+        "let words = words_of(text)?;",
+        misread("format!(\"{line} )\")"),
+    ),
+    (
+        "a bracket may close nothing",
+        "typing",
+        "let words = words_of(text)?;",
+        misread("format!(\"( {line}\")"),
+    ),
+    (
+        "a port's direction may come first",
+        "typing",
+        "let words = words_of(text)?;",
+        misread("line.replace(\"src tcp port\", \"tcp src port\")"),
+    ),
+    (
+        "tcp may stand before host",
+        "typing",
+        "let words = words_of(text)?;",
+        misread("line.replace(\"tcp host\", \"host\")"),
+    ),
+    (
+        "host may be left out behind src",
+        "typing",
+        "let words = words_of(text)?;",
+        misread("line.replace(\"src 1\", \"src host 1\")"),
+    ),
+    (
+        "and may be left out",
+        "typing",
+        "let words = words_of(text)?;",
+        misread("line.replace(\"ip ip\", \"ip and ip\")"),
+    ),
+    (
+        "no direction can follow tcp",
+        "typing",
+        "matches!(word, Some(Port | Side(_))) || goes_on(word, open)",
+        "matches!(word, Some(Port)) || goes_on(word, open)",
+    ),
+    (
+        "tcp is nothing by itself",
+        "typing",
+        "matches!(word, Some(Port | Side(_))) || goes_on(word, open)",
+        "matches!(word, Some(Port | Side(_)))",
+    ),
+    (
+        "17 is at the word before",
+        "typing",
+        "return refused(UNFINISHED, pieces[i].0);",
+        "return refused(UNFINISHED, pieces[i.saturating_sub(1)].0);",
+    ),
+    (
+        "17 is one word late",
+        "typing",
+        "return refused(UNFINISHED, pieces[i].0);",
+        "return refused(UNFINISHED, pieces.get(i + 1).map_or(text.len(), |piece| piece.0));",
+    ),
+    (
+        "17 is at a word's end",
+        "typing",
+        "return refused(UNFINISHED, pieces[i].0);",
+        "return refused(UNFINISHED, pieces[i].0 + pieces[i].1.len());",
+    ),
+    (
+        "17 counts words",
+        "typing",
+        "return refused(UNFINISHED, pieces[i].0);",
+        "return refused(UNFINISHED, i);",
+    ),
+    (
+        "17 has 16 bits for its place",
+        "typing",
+        "return refused(UNFINISHED, pieces[i].0);",
+        "return refused(UNFINISHED, pieces[i].0 as u16 as usize);",
+    ),
+    (
+        "the end is behind the last word",
+        "typing",
+        "return refused(UNFINISHED, text.len());",
+        "return refused(UNFINISHED, pieces.last().map_or(0, |(place, piece)| place + piece.len()));",
+    ),
+    (
+        "the end is the last word",
+        "typing",
+        "return refused(UNFINISHED, text.len());",
+        "return refused(UNFINISHED, pieces.last().map_or(text.len(), |(place, _)| *place));",
+    ),
+    (
+        "a number that cannot follow is 16",
+        "typing",
+        "return refused(UNFINISHED, pieces[i].0);",
+        """let value = matches!(read[i], Address(_) | Number(_));
+        return refused(if value { UNKNOWN_WORD } else { UNFINISHED }, pieces[i].0);""",
+    ),
+    (
+        "a number or an address too large is 17",
+        "typing",
+        "return refused(UNKNOWN_WORD, *place);",
+        """let digits = pieces[read.len()].1.iter().all(|b| b.is_ascii_digit() || *b == b'.');
+        return refused(if digits { UNFINISHED } else { UNKNOWN_WORD }, *place);""",
+    ),
+    (
+        "17 precedes 16 at one place",
+        "typing",
+        "return refused(UNKNOWN_WORD, *place);",
+        """let whole = can_follow(&read, open[read.len()], Some(And));
+        return refused(if whole { UNFINISHED } else { UNKNOWN_WORD }, *place);""",
+    ),
+    (
+        "16 comes before an earlier 17",
+        "typing",
+        "let open = open_before(&read);",
+        """if let Some((place, _)) = pieces.get(read.len()) {
+        return Err(Refusal { number: UNKNOWN_WORD, place: *place });
+    }
+    let open = open_before(&read);""",
+    ),
+    (
+        "18 by records comes before 16 and 17",
+        "typing",
+        "let words = words_of(text)?;",
+        sized_first("records"),
+    ),
+    (
+        "18 by brackets comes before 16 and 17",
+        "typing",
+        "let words = words_of(text)?;",
+        sized_first("brackets"),
+    ),
+    (
+        "18 is at the line's end",
+        "typing",
+        "return refused(TOO_LARGE);",
+        "return Err(Refusal { number: TOO_LARGE, place: text.len() });",
+    ),
+    (
+        "129 records are taken",
+        "typing",
+        "size.records > MOST",
+        "size.records > MOST + 1",
+    ),
+    (
+        "128 records are not taken",
+        "typing",
+        "size.records > MOST",
+        "size.records >= MOST",
+    ),
+    (
+        "129 open brackets are taken",
+        "typing",
+        "size.brackets > MOST",
+        "size.brackets > MOST + 1",
+    ),
+    (
+        "128 open brackets are not taken",
+        "typing",
+        "size.brackets > MOST",
+        "size.brackets >= MOST",
+    ),
+    (
+        "all brackets count, not those open at once",
+        "typing",
+        "open_before(words).into_iter().max().unwrap_or(0)",
+        "words.iter().filter(|word| **word == Open).count()",
+    ),
+    (
+        "brackets are records",
+        "typing",
+        "And | Or | Not | Protocol(_) | Address(_) | Number(_) => true,",
+        "And | Or | Not | Protocol(_) | Address(_) | Number(_) | Open => true,",
+    ),
+    (
+        "the link is asked after the line",
+        "typing",
+        "if !matches!(link, ETHERNET | RAW_IP | LINUX_SLL) {",
+        "if words_of(text).is_ok() && !matches!(link, ETHERNET | RAW_IP | LINUX_SLL) {",
+    ),
+    (
+        "link 0 is taken",
+        "typing",
+        "if !matches!(link, ETHERNET | RAW_IP | LINUX_SLL) {",
+        "if link > LINUX_SLL {",
+    ),
+    (
+        "link 4 is taken",
+        "typing",
+        "if !matches!(link, ETHERNET | RAW_IP | LINUX_SLL) {",
+        "if !matches!(link, 1..=4) {",
+    ),
+    (
+        "link 129 is taken",
+        "typing",
+        "if !matches!(link, ETHERNET | RAW_IP | LINUX_SLL) {",
+        "if !matches!(link & 127, ETHERNET | RAW_IP | LINUX_SLL) {",
+    ),
+    (
+        "the link is not written",
+        "typing",
+        "file[LINK] = link;",
+        "",
+    ),
+    (
+        "the count is little-endian",
+        "typing",
+        "(count as u16).to_be_bytes()",
+        "(count as u16).to_le_bytes()",
+    ),
+    (
+        "no direction is source",
+        "typing",
+        "_ => (EITHER, rest),",
+        "_ => (SOURCE, rest),",
+    ),
+    (
+        "no direction is both",
+        "typing",
+        "_ => (EITHER, rest),",
+        "_ => (3, rest),",
+    ),
+    (
+        "src and dst are exchanged",
+        "typing",
+        "[Side(side), ref rest @ ..] => (side, rest),",
+        "[Side(side), ref rest @ ..] => (3 - side, rest),",
+    ),
+    (
+        "a port's protocol is not written",
+        "typing",
+        "&[PORT, side, protocol]",
+        "&[PORT, side, NONE]",
+    ),
+    (
+        "a protocol is not written",
+        "typing",
+        "record[2] = protocol;",
+        "",
+    ),
+    (
+        "a port is little-endian",
+        "typing",
+        "&port.to_be_bytes()",
+        "&port.to_le_bytes()",
+    ),
+    (
+        "a port's range ends at it",
+        "typing",
+        "record[4..6].copy_from_slice(&port.to_be_bytes());",
+        """record[4..6].copy_from_slice(&port.to_be_bytes());
+            record[6..8].copy_from_slice(&port.to_be_bytes());""",
+    ),
+    (
+        "a host is a net with a full mask",
+        "typing",
+        "record[8..12].copy_from_slice(&address);",
+        """record[0] = 13;
+            record[8..12].copy_from_slice(&address);
+            record[12..16].fill(0xFF);""",
+    ),
+    (
+        "sctp is 9",
+        "typing",
+        "(\"sctp\", Transport(SCTP)),",
+        "(\"sctp\", Transport(9)),",
+    ),
+    (
+        "a file leaves the bytes behind it",
+        "typing",
+        "tree.resize(TREE, 0);",
+        "tree.resize(TREE, if number >> REFUSAL == 0 { 0x5A } else { 0 });",
+    ),
+    (
+        "a refusal leaves the bytes",
+        "typing",
+        "tree.resize(TREE, 0);",
+        "tree.resize(TREE, if number >> REFUSAL == 0 { 0 } else { 0x5A });",
+    ),
+    (
+        "18 leaves the bytes",
+        "typing",
+        "tree.resize(TREE, 0);",
+        "tree.resize(TREE, if number >> REFUSAL == 18 { 0x5A } else { 0 });",
+    ),
+    (
+        "the answer is the count of records",
+        "typing",
+        "(file.len() as u64, file)",
+        "((file.len() / RECORD) as u64, file)",
+    ),
+    (
+        "a line with tcp is true of IPv6",
+        "saying",
+        "TCP => ipv4(TCP_NUMBER),",
+        "TCP => ipv4(TCP_NUMBER) || self.ethertype() == IPV6_TYPE && self.byte(self.net(6)) == TCP_NUMBER,",
+    ),
+    (
+        "a line with a port is true of SCTP",
+        "saying",
+        "_ => number == TCP_NUMBER || number == UDP_NUMBER,",
+        "_ => [TCP_NUMBER, UDP_NUMBER, SCTP_NUMBER].contains(&number),",
+    ),
+    (
+        "a line with a port is false of IPv6",
+        "saying",
+        "IPV6_TYPE => Some((self.byte(self.net(6)), self.net(IPV6_HEADER))),",
+        "",
+    ),
+    (
+        "a line with a port is true of a later fragment",
+        "saying",
+        "IPV4_TYPE if self.half(self.net(6)) & FRAGMENT == 0 => {",
+        "IPV4_TYPE => {",
+    ),
+    (
+        "a line with a host is true of ARP",
+        "saying",
+        "(self.ethertype() == IPV4_TYPE).then(|| [at(12), at(16)])",
+        """match self.ethertype() {
+            IPV4_TYPE => Some([at(12), at(16)]),
+            ARP_TYPE => Some([at(14), at(24)]),
+            _ => None,
+        }""",
+    ),
+    (
+        "a line with no direction is true of both sides alone",
+        "saying",
+        "_ => source == value || destination == value,",
+        "_ => source == value && destination == value,",
+    ),
+    (
+        "a line's src is true of the destination",
+        "saying",
+        "SOURCE => source == value,",
+        "SOURCE => destination == value,",
+    ),
+    (
+        "a line's or is true of both alone",
+        "saying",
+        "Phrase::Or(left, right) => left.holds(seen) || right.holds(seen),",
+        "Phrase::Or(left, right) => left.holds(seen) != right.holds(seen),",
+    ),
+    (
+        "a line with ip6 is true on RawIp",
+        "saying",
+        "IP6 => self.ethertype() == IPV6_TYPE,",
+        "IP6 => self.ethertype() == IPV6_TYPE || self.link == RAW_IP && self.byte(0) >> 4 == 6,",
+    ),
+]
+
 GROUPS = [
     ("wrong turns", WRONG_TURNS),
     ("worthless versions", WORTHLESS),
@@ -1368,6 +1943,7 @@ GROUPS = [
     ("single values", VALUES),
     ("readings", READINGS),
     ("captures", CAPTURES),
+    ("typing", TYPING),
 ]
 
 

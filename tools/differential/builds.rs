@@ -4,16 +4,12 @@
 use std::collections::{BTreeMap, HashMap};
 
 use crate::bpf::Insn;
+use crate::lent::{lent, other_byte, CANARY, MARGIN, STALE};
 use crate::part::{to_hex, Answers, Parts};
 use crate::trees::{self, edges, systematic, Rng};
 use crate::wide::widened;
 use crate::{exports, insn, second, shrink, Number};
 use crate::{HEADER, INSN, LINK, MAX_PROGRAM, MAX_RECORDS, RECORD};
-
-/// Bytes before and after the lent part, and what the lent part holds before.
-const MARGIN: usize = 16;
-const CANARY: u8 = 0xC5;
-const STALE: u8 = 0x5A;
 
 /// What a generator makes of a file: the program's bytes, or the refusal.
 pub type Answer = Result<Vec<u8>, Number>;
@@ -101,15 +97,6 @@ pub fn wanted(answer: &Answer, length: usize) -> (u32, Vec<u8>) {
     space.extend(program);
     space.resize(MARGIN + length, 0);
     space.resize(length + 2 * MARGIN, CANARY);
-    (number, space)
-}
-
-/// What a call answers that is lent a buffer of a length, and its bytes after.
-pub fn lent<N>(length: usize, call: impl FnOnce(&mut [u8]) -> N) -> (N, Vec<u8>) {
-    let mut space = vec![CANARY; length + 2 * MARGIN];
-    let program = &mut space[MARGIN..MARGIN + length];
-    program.fill(STALE);
-    let number = call(program);
     (number, space)
 }
 
@@ -314,13 +301,6 @@ fn compare(file: &[u8], answer: &Answer, sizes: &mut Rng, met: &mut Met, parts: 
 pub fn least_difference(file: &[u8]) -> String {
     let least = shrink::tree(file, |f| any_difference(f).is_some());
     any_difference(&least).unwrap_or_default()
-}
-
-/// Where two lent buffers differ, in words.
-pub fn other_byte(here: &[u8], there: &[u8]) -> String {
-    let mut bytes = here.iter().zip(there);
-    let place = bytes.position(|(a, b)| a != b).unwrap_or(0) as i64 - MARGIN as i64;
-    format!(" with another byte {place}")
 }
 
 /// How a buffer of a length differs.

@@ -8,6 +8,7 @@ use std::sync::atomic::Ordering;
 use crate::builds;
 use crate::drafts::Spoiled;
 use crate::filter::{bodies, drawn_filter, faults, written, Filter};
+use crate::lent::{lent, other_byte};
 use crate::machine::{ACCEPTED, BROKEN, DROPPED, SHORT};
 use crate::part::{to_hex, Answers, Parts, FIRST};
 use crate::pcap::{self, Given, Order, LONGEST, MARKS, NO_CAPTURE, OTHER_LINK};
@@ -75,7 +76,7 @@ fn hex(capture: &[u8]) -> String {
 }
 
 fn count(tree: &[u8], capture: &[u8], length: usize) -> (u64, Vec<u8>) {
-    builds::lent(length, |program| exports::count(tree, program, capture))
+    lent(length, |program| exports::count(tree, program, capture))
 }
 
 /// How a count differs.
@@ -86,7 +87,7 @@ fn difference(filter: &Filter, reading: &Reading, capture: &[u8], length: usize)
         return None;
     }
     let place = match here.0 == there.0 {
-        true => builds::other_byte(&here.1, &there.1),
+        true => other_byte(&here.1, &there.1),
         false => String::new(),
     };
     let (here, there) = (shown(here.0, "accepted"), shown(there.0, "accepted"));

@@ -14,6 +14,7 @@ mod c {
             bytes: usize,
         ) -> u64;
         pub fn pft_frame(capture: *const u8, bytes: usize, at: usize) -> u64;
+        pub fn pft_type(link: u8, text: *const u8, length: usize, tree: *mut u8) -> u64;
     }
 }
 
@@ -56,4 +57,12 @@ pub fn count(tree: &[u8], program: &mut [u8], capture: &[u8]) -> u64 {
 /// Captured length, or refusal × 2^32.
 pub fn frame(capture: &[u8], at: usize) -> u64 {
     unsafe { c::pft_frame(capture.as_ptr(), capture.len(), at) }
+}
+
+/// A tree file at its longest.
+pub const TREE: usize = 3_080;
+
+/// The file's length, or refusal × 2^32 + place.
+pub fn typed(link: u8, text: &[u8], tree: &mut [u8; TREE]) -> u64 {
+    unsafe { c::pft_type(link, text.as_ptr(), text.len(), tree.as_mut_ptr()) }
 }

@@ -12,17 +12,20 @@
 
 use std::io::Write;
 
+use command::{end_with_reader, number, outlive_reader};
 use part::Parts;
 use trees::Rng;
 
 mod builds;
 mod captures;
+mod command;
 mod counting;
 mod drafts;
 mod exports;
 mod filter;
 mod frames;
 mod growth;
+mod lent;
 mod machine;
 mod meaning;
 mod part;
@@ -30,6 +33,7 @@ mod pcap;
 mod ranges;
 mod readings;
 mod shrink;
+mod smaller;
 mod sweep;
 #[allow(dead_code)]
 mod traced;
@@ -117,33 +121,6 @@ fn print_all(seed: u64, count: u64) {
         let line: String = file.iter().map(|b| format!("{b:02x}")).collect();
         writeln!(out, "{line}").unwrap_or_else(|e| fail(&e.to_string()));
     }
-}
-
-extern "C" {
-    fn signal(number: i32, action: usize) -> usize;
-}
-
-const SIGPIPE: i32 = 13;
-
-/// A reader that goes away ends the run, as it does other programs.
-fn end_with_reader() {
-    const DEFAULT: usize = 0;
-    unsafe { signal(SIGPIPE, DEFAULT) };
-}
-
-/// Writing to a program that does not read to the end is an error like others.
-fn outlive_reader() {
-    const IGNORE: usize = 1;
-    unsafe { signal(SIGPIPE, IGNORE) };
-}
-
-fn number(word: &str) -> u64 {
-    let Ok(number) = word.parse() else {
-        fail(&format!(
-            "not a number from 0 to 18446744073709551615: {word}"
-        ));
-    };
-    number
 }
 
 const USAGE: &str = "usage: differential [--print | --first STAGE] SEED COUNT

@@ -19,7 +19,7 @@ pub struct Part {
 }
 
 impl Part {
-    fn new(name: &'static str) -> Part {
+    pub fn new(name: &'static str) -> Part {
         Part {
             name,
             compared: 0,
@@ -42,6 +42,10 @@ impl Part {
             self.print();
             std::process::exit(1);
         }
+    }
+
+    fn was_asked(&self) -> bool {
+        self.compared + self.differences > 0
     }
 
     pub fn print(&self) {
@@ -114,19 +118,23 @@ impl Parts {
         println!("{whose}: {cooked}, accepted {accepted}{met}");
     }
 
-    /// Each part that was asked, then the line of all; how many differences there were.
+    /// All of it; how many differences there were.
     pub fn print(&self) -> u64 {
-        let asked = |part: &&Part| part.compared + part.differences > 0;
-        if asked(&&self.builds) {
+        if self.builds.was_asked() {
             self.print_cooked();
         }
-        let parts = self.all().into_iter().filter(asked);
-        parts.for_each(Part::print);
-        let compared: u64 = self.all().iter().map(|part| part.compared).sum();
-        let differences: u64 = self.all().iter().map(|part| part.differences).sum();
-        println!("{compared} compared, {differences} differences");
-        differences
+        print_all(&self.all())
     }
+}
+
+/// Each part that was asked, then the line of all; how many differences there were.
+pub fn print_all(parts: &[&Part]) -> u64 {
+    let asked = parts.iter().filter(|part| part.was_asked());
+    asked.for_each(|part| part.print());
+    let compared: u64 = parts.iter().map(|part| part.compared).sum();
+    let differences: u64 = parts.iter().map(|part| part.differences).sum();
+    println!("{compared} compared, {differences} differences");
+    differences
 }
 
 /// Bytes in hex, `-` for none; many equal ones at the end are told by their number,

@@ -3,6 +3,7 @@
 use std::ops::Range;
 
 use crate::pcap::{self, Order, CAPTURED, FILE_HEADER, FRAME_HEADER};
+use crate::smaller::{by_parts, without};
 use crate::{HEADER, INSN, RECORD};
 
 /// Where the tree that starts at a record ends, if it does.
@@ -100,41 +101,6 @@ pub fn frame(frame: &[u8], differs: impl Fn(&[u8]) -> bool) -> Vec<u8> {
 }
 
 // ── Captures ─────────────────────────────────────────────────────────────────
-
-/// How many bytes the smaller inputs that are tried may have in all.
-const TRIED: usize = 64 << 20;
-
-/// A row with one part after another changed, where it still differs: halves, quarters, ..
-/// and single items. `bytes` tells what a row weighs.
-fn by_parts<T: Clone + PartialEq>(
-    mut row: Vec<T>,
-    bytes: impl Fn(&[T]) -> usize,
-    change: impl Fn(&[T], Range<usize>) -> Vec<T>,
-    differs: impl Fn(&[T]) -> bool,
-) -> Vec<T> {
-    let (mut size, mut tried) = (row.len(), 0);
-    while size > 0 {
-        let mut at = 0;
-        while at < row.len() && tried < TRIED {
-            let end = (at + size).min(row.len());
-            let next = change(&row, at..end);
-            tried += bytes(&next);
-            let better = next != row && differs(&next);
-            if !better || next.len() == row.len() {
-                at = end;
-            }
-            if better {
-                row = next;
-            }
-        }
-        size /= 2;
-    }
-    row
-}
-
-fn without<T: Clone>(row: &[T], part: Range<usize>) -> Vec<T> {
-    [&row[..part.start], &row[part.end..]].concat()
-}
 
 fn with_zeros(bytes: &[u8], part: Range<usize>) -> Vec<u8> {
     let mut other = bytes.to_vec();

@@ -4,6 +4,9 @@ use std::io::{self, BufRead, Read, Write};
 
 include!("answers.rs");
 
+#[allow(dead_code)]
+mod typing;
+
 // ── Text in and out ──────────────────────────────────────────────────────────
 
 fn digit(c: u8) -> u8 {
@@ -51,17 +54,38 @@ fn built_line(line: &str, builder: Builder) -> String {
     }
 }
 
-/// One answer of `run`. A lone `-` stands for no bytes.
+/// Bytes in hex. A lone `-` stands for none.
+fn bytes_of(text: &str) -> Vec<u8> {
+    from_hex(if text == "-" { "" } else { text })
+}
+
+/// One answer of `run`.
 fn run_line(line: &str) -> String {
-    let field = |text: &str| from_hex(if text == "-" { "" } else { text });
     let Some((program, frame)) = line.split_once(' ') else {
         fail("run wants PROGRAMHEX FRAMEHEX");
     };
-    match run(&field(program), &field(frame)) {
+    match run(&bytes_of(program), &bytes_of(frame)) {
         Ok(Some(true)) => "accepted".into(),
         Ok(Some(false)) => "dropped".into(),
         Ok(None) => "none".into(),
         Err(n) => format!("refused {n}"),
+    }
+}
+
+/// One answer of `type`: LENGTH and the file's bytes, or the refusal and its place.
+fn typed_line(line: &str) -> String {
+    let Some((link, text)) = line.split_once(' ') else {
+        fail("type wants LINK TEXTHEX");
+    };
+    let Ok(link) = link.parse() else {
+        fail("LINK is 0 to 255");
+    };
+    match typing::read(link, &bytes_of(text)) {
+        Ok(phrase) => {
+            let file = phrase.file(link);
+            format!("{} {}", file.len(), to_hex(file.into_iter()))
+        }
+        Err(refusal) => format!("refused {} {}", refusal.number, refusal.place),
     }
 }
 
@@ -93,7 +117,7 @@ fn list_stdin() -> io::Result<()> {
     io::stdout().write_all(listing(&file).as_bytes())
 }
 
-const USAGE: &str = "usage: oracle build | rust | second | run | listing";
+const USAGE: &str = "usage: oracle build | rust | second | run | type | listing";
 
 fn main() {
     let words: Vec<String> = std::env::args().skip(1).collect();
@@ -103,6 +127,7 @@ fn main() {
         ["rust"] => each_line(|line| built_line(line, rust)),
         ["second"] => each_line(|line| built_line(line, second)),
         ["run"] => each_line(run_line),
+        ["type"] => each_line(typed_line),
         ["listing"] => list_stdin(),
         ["--help"] => writeln!(io::stdout(), "{USAGE}"),
         _ => fail(USAGE),

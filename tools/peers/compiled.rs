@@ -8,16 +8,16 @@ use dabberpearl::{direct, Error, Instruction, Program, Refusal, Verdict};
 use crate::frames::Maker;
 use crate::libpcap::{self, Compiler, Insn};
 use crate::pool::Pool;
+use crate::short::Short;
 use crate::shrink::{shrink, Case, ENOUGH};
 use crate::traps::trap;
 use crate::tree::{frame_text, tree_text, Record, Tree, NOT};
 use crate::trees::Rng;
 use crate::values::{self, network, Values};
 
-/// Frames for each tree: made for it, traps for its words, and from the pool.
+/// Frames for each tree besides those of the pool: made for it, and traps for its words.
 const MADE: usize = 24;
 const TRAPS: usize = 8;
-const DRAWN: usize = 256;
 /// How many differences are shown.
 const SHOWN: u64 = 10;
 /// How many faults of libpcap's optimizer of each sort are made small, and shown.
@@ -115,8 +115,7 @@ pub struct Met {
     far: u64,
     frames: u64,
     accepted: u64,
-    /// Frames that are too short, by ours (accepted, dropped, short) and libpcap's answer.
-    short: [[u64; 2]; 3],
+    short: Short,
     pub differences: u64,
     pub told_apart: u64,
     fault_trees: u64,
@@ -129,7 +128,7 @@ pub struct Met {
 impl Met {
     /// Verdicts compared: a frame that is too short is compared as it is, and filled up.
     pub fn compared(&self) -> u64 {
-        self.frames + self.short.iter().flatten().sum::<u64>()
+        self.frames + self.short.count()
     }
 
     fn note(&mut self, judge: &Judge, tree: &mut Tree) {
@@ -148,7 +147,6 @@ impl Met {
 
     pub fn print(&self) {
         let [_, ethernet, raw, sll] = self.links;
-        let [accepted, dropped, short] = self.short;
         println!("trees in words: {ethernet} of Ethernet, {raw} of RawIp, {sll} of LinuxSll");
         println!(
             "  of up to {} records, {} different conditions, {} of {} conditions said by bytes; \
@@ -167,11 +165,7 @@ impl Met {
             "  {} frames judged, those below n + 64 bytes filled up; {} accepted",
             self.frames, self.accepted
         );
-        println!(
-            "  those as they are, here and in libpcap: accepted and accepted {}, accepted and dropped {}, \
-             dropped and dropped {}, short and dropped {}, short and accepted {}",
-            accepted[1], accepted[0], dropped[0], short[0], short[1]
-        );
+        self.short.print();
         self.print_faults();
     }
 
@@ -216,24 +210,12 @@ impl<'a> Compiled<'a> {
     pub fn compare(&mut self, count: u64) {
         while self.met.trees < count {
             let link = self.rng.pick(&[1, 1, 2, 3]);
-            let drawn = self.drawn(link);
+            let drawn = self.pool.drawn(&mut self.rng, link);
             let sources = self.rng.between(1, 3).min(drawn.len());
             let values = Values::of(&mut self.rng, link, &drawn[..sources]);
             let tree = values::tree(&mut self.rng, link, &values);
             self.tree(link, tree, &drawn);
         }
-    }
-
-    /// Frames of the pool: all of them, or as many as a tree is compared on.
-    fn drawn(&mut self, link: u8) -> Vec<&'a [u8]> {
-        let all = self.pool.of(link);
-        let count = all.len().min(DRAWN);
-        let mut places: Vec<usize> = (0..all.len()).collect();
-        for at in 0..count {
-            let other = self.rng.between(at, all.len() - 1);
-            places.swap(at, other);
-        }
-        places[..count].iter().map(|&at| &*all[at]).collect()
     }
 
     fn tree(&mut self, link: u8, mut tree: Tree, drawn: &[&[u8]]) {
@@ -312,18 +294,9 @@ impl<'a> Compiled<'a> {
         answers.direct
     }
 
-    /// A verdict here other than short is that of the frame filled up. What libpcap accepts without
-    /// a byte past the end it accepts however it goes on, so the filled frame is accepted.
-    fn short(&mut self, judge: &Judge, tree: &Tree, frame: &[u8], holds: bool) {
+    fn short(&mut self, judge: &Judge, tree: &Tree, frame: &[u8], filled: bool) {
         let answers = judge.answers(frame);
-        let (row, good) = match answers.run {
-            Verdict::Accepted => (0, holds),
-            Verdict::Dropped => (1, !holds && !answers.plain),
-            Verdict::Short => (2, holds || !answers.plain),
-            _ => (2, false),
-        };
-        self.met.short[row][answers.plain as usize] += 1;
-        if !good {
+        if !self.met.short.note(answers.run, answers.plain, filled) {
             self.show_difference(judge, tree, frame);
         }
     }

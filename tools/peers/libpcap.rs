@@ -27,6 +27,17 @@ impl From<Instruction> for Insn {
     }
 }
 
+impl From<Insn> for Instruction {
+    fn from(i: Insn) -> Instruction {
+        Instruction {
+            code: i.code,
+            jt: i.jt,
+            jf: i.jf,
+            k: i.k,
+        }
+    }
+}
+
 /// `pcap_t`, of which only the address is known here.
 #[repr(C)]
 struct Pcap {

@@ -1,37 +1,54 @@
-//! Holds built programs, their trees and counted captures to libpcap, and programs to Linux.
+//! Holds built programs, their trees, typed lines and counted captures to libpcap, and programs to
+//! Linux.
 //!
 //! peers SAMPLES MODE SEED COUNT [CAPTURE..]
 //!
 //! SAMPLES is the folder of the sample frames, MODE `same`, `--spoil` (the peers are given each
-//! program with one test changed), `--spoil-words` (the words say one condition otherwise) or
-//! `--spoil-captures` (libpcap is given each capture or its program with one thing changed).
+//! program with one test changed), `--spoil-words` (the words say one condition otherwise),
+//! `--spoil-lines` (a line's words say one thing otherwise) or `--spoil-captures` (libpcap is given
+//! each capture or its program with one thing changed).
 
 use std::io::Error;
 use std::path::Path;
 
 use compiled::Compiled;
 use counting::Counting;
+use lines::Lines;
 use pool::Pool;
 use programs::Programs;
+use refused::Refusals;
 
 mod compiled;
 mod counting;
+mod drawing;
+mod fewest;
 mod frames;
 mod libpcap;
+mod lines;
 mod linux;
 mod pool;
 mod programs;
+mod refused;
 mod rules;
 mod savefiles;
+mod short;
 mod shrink;
+mod translation;
 mod traps;
 mod tree;
 #[path = "../differential/trees.rs"]
 mod trees;
+mod typing;
 mod values;
 mod words;
 
-const MODES: [&str; 4] = ["same", "--spoil", "--spoil-words", "--spoil-captures"];
+const MODES: [&str; 5] = [
+    "same",
+    "--spoil",
+    "--spoil-words",
+    "--spoil-lines",
+    "--spoil-captures",
+];
 
 fn fail(words: &str) -> ! {
     eprintln!("peers: {words}");
@@ -75,36 +92,62 @@ fn pool(samples: &str, captures: &[&str]) -> Pool {
     pool
 }
 
-/// Prints what was compared; ends with 1 where something differed, 2 where it could not be compared.
-fn finish(
-    pool: &Pool,
-    programs: &Programs,
-    compiled: &Compiled,
-    counting: &Counting,
-    mode: &str,
-) -> ! {
-    programs.met.print();
-    pool.print();
-    compiled.met.print();
-    counting.met.print(mode == "same");
-    match mode {
-        "--spoil" => println!("{} spoiled programs told apart", programs.met.told_apart),
-        "--spoil-words" => println!(
-            "{} trees with wrong words told apart",
-            compiled.met.told_apart
-        ),
-        "--spoil-captures" => println!("{} spoiled captures told apart", counting.met.told_apart),
-        _ => (),
+/// All that is compared.
+struct Run<'a> {
+    pool: &'a Pool,
+    programs: Programs,
+    compiled: Compiled<'a>,
+    lines: Lines<'a>,
+    refusals: Refusals<'a>,
+    counting: Counting,
+}
+
+impl Run<'_> {
+    fn print(&self, mode: &str) {
+        self.programs.met.print();
+        self.pool.print();
+        self.compiled.met.print();
+        self.lines.met.print();
+        self.refusals.met.print();
+        self.counting.met.print(mode == "same");
+        let (what, told_apart) = match mode {
+            "--spoil" => ("spoiled programs", self.programs.met.told_apart),
+            "--spoil-words" => ("trees with wrong words", self.compiled.met.told_apart),
+            "--spoil-lines" => ("lines with wrong words", self.lines.met.told_apart),
+            "--spoil-captures" => ("spoiled captures", self.counting.met.told_apart),
+            _ => return,
+        };
+        println!("{told_apart} {what} told apart");
     }
-    let differences =
-        programs.met.differences + compiled.met.differences + counting.met.differences;
-    let compared = programs.met.frames + compiled.met.compared() + counting.met.counts;
-    println!("{compared} compared, {differences} differences");
-    std::process::exit(match differences {
-        0 if programs.met.no_memory > 0 => 2,
-        0 => 0,
-        _ => 1,
-    })
+
+    fn compared(&self) -> u64 {
+        self.programs.met.frames
+            + self.compiled.met.compared()
+            + self.lines.met.compared()
+            + self.refusals.met.compared()
+            + self.counting.met.counts
+    }
+
+    fn differences(&self) -> u64 {
+        self.programs.met.differences
+            + self.compiled.met.differences
+            + self.lines.met.differences
+            + self.refusals.met.differences
+            + self.counting.met.differences
+    }
+
+    /// Prints what was compared; ends with 1 where something differed, 2 where it could not be
+    /// compared.
+    fn finish(&self, mode: &str) -> ! {
+        self.print(mode);
+        let (compared, differences) = (self.compared(), self.differences());
+        println!("{compared} compared, {differences} differences");
+        std::process::exit(match differences {
+            0 if self.programs.met.no_memory > 0 => 2,
+            0 => 0,
+            _ => 1,
+        })
+    }
 }
 
 /// Captures that are drawn and swept, then files.
@@ -134,7 +177,18 @@ fn main() {
     programs.compare(seed, count);
     let mut compiled = Compiled::new(seed.reverse_bits(), &pool, *mode == "--spoil-words");
     compiled.compare(count);
+    let mut lines = Lines::new(seed.rotate_left(32), &pool, *mode == "--spoil-lines");
+    lines.compare(count);
+    let mut refusals = Refusals::new(!seed.rotate_left(32), &pool);
+    refusals.compare(count);
     let spoils = *mode == "--spoil-captures";
-    let counting = counted(seed.swap_bytes(), count, spoils, samples, captures);
-    finish(&pool, &programs, &compiled, &counting, mode)
+    let run = Run {
+        pool: &pool,
+        programs,
+        compiled,
+        lines,
+        refusals,
+        counting: counted(seed.swap_bytes(), count, spoils, samples, captures),
+    };
+    run.finish(mode)
 }

@@ -4,6 +4,7 @@ use std::fs;
 use std::path::{Path, PathBuf};
 
 use crate::libpcap;
+use crate::trees::Rng;
 use crate::values::network;
 
 const ETHERNET: u8 = 1;
@@ -12,6 +13,8 @@ const SLL: u8 = 3;
 const FOLDERS: [(&str, u8); 3] = [("ethernet", 1), ("rawip", 2), ("linuxsll", 3)];
 /// How long the sender's address is by the cooked headers that frames are given, in turn.
 const LENGTHS: [u16; 10] = [6, 6, 8, 6, 6, 0, 6, 4, 6, 0x0106];
+/// How many frames a tree or a line is compared on.
+const DRAWN: usize = 256;
 /// Of so many frames that are not IPv4 one is taken as RawIp.
 const OTHERS: usize = 8;
 /// Of captures in a folder.
@@ -44,6 +47,18 @@ pub struct Pool {
 impl Pool {
     pub fn of(&self, link: u8) -> &[Vec<u8>] {
         &self.frames[link as usize]
+    }
+
+    /// So many frames as are compared at once, or all.
+    pub fn drawn(&self, rng: &mut Rng, link: u8) -> Vec<&[u8]> {
+        let all = self.of(link);
+        let count = all.len().min(DRAWN);
+        let mut places: Vec<usize> = (0..all.len()).collect();
+        for at in 0..count {
+            let other = rng.between(at, all.len() - 1);
+            places.swap(at, other);
+        }
+        places[..count].iter().map(|&at| &*all[at]).collect()
     }
 
     fn push(&mut self, link: u8, frame: Vec<u8>) {

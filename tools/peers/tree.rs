@@ -19,6 +19,12 @@ pub fn record(kind: u8) -> Record {
     r
 }
 
+/// The records of a tree file.
+pub fn records_of(file: &[u8]) -> Vec<Record> {
+    let records = file[HEADER..].chunks_exact(RECORD);
+    records.map(|r| r.try_into().expect("so many")).collect()
+}
+
 /// A condition, and which of its two ways to be said in words is taken.
 #[derive(Clone, PartialEq)]
 pub struct Leaf {

@@ -131,8 +131,12 @@ impl Values {
         }
     }
 
+    pub fn address4(&self, rng: &mut Rng) -> u32 {
+        rng.pick(&self.addresses4)
+    }
+
     /// A port that is found, at times one beside it.
-    fn port(&self, rng: &mut Rng) -> u16 {
+    pub fn port(&self, rng: &mut Rng) -> u16 {
         let port = rng.pick(&self.ports);
         rng.pick(&[port, port, port, port ^ 1, port.wrapping_add(1)])
     }
@@ -158,7 +162,7 @@ impl Values {
         if r[0] == 13 {
             r[12..16].copy_from_slice(&mask.to_be_bytes());
         }
-        r[8..12].copy_from_slice(&rng.pick(&self.addresses4).to_be_bytes());
+        r[8..12].copy_from_slice(&self.address4(rng).to_be_bytes());
     }
 
     fn put_net6(&self, rng: &mut Rng, r: &mut Record) {
