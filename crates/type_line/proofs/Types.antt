@@ -37,9 +37,10 @@ use Rattle.typing.specs.Typed.{Typed, placed, rejected, within, sized, linked, 
 use Rattle.typing.proofs.Answers.{never, typed-of, typed-found, one-finding, within-true, true-within}
 use Rattle.typing.proofs.Passes.{file-length, file-header, passes, file-says}
 use Rattle.typing.proofs.Spaces.{space-parts, one-word}
+use Rattle.typing.proofs.Numerals as N
 use Rattle.records.specs.Order.{fileBytes, phrasePrefix}
 use Rattle.records.proofs.Records.{phrase-bytes}
-use Rattle.type_line.specs.Types.{Calls, Kept, Says, Allows, Refuses, Spaced, Decided, Gives, Typing, Types}
+use Rattle.type_line.specs.Types.{Calls, Kept, Says, Allows, Refuses, Spaced, Numerals, Decided, Gives, Typing, Types}
 use Rattle.type_line.proofs.Ranges.{in-range}
 use Rattle.type_line.proofs.Top.{link-low, link-high, link-good, typed-link}
 
@@ -50,6 +51,9 @@ spaced =
       one = λ at b s h. one-word b s at h;
       space = λ at s t. space-parts s t false at;
     }
+
+pub numerals : Numerals
+numerals = record { addresses = N.addresses; ports = N.port-numbers; unknown = N.strangers }
 
 -- ---- the bytes of a file are bytes
 

@@ -5,6 +5,7 @@ use mathlib.Core.Path.{_≡_}
 use mathlib.Core.List.{List, [], _∷_, _++_}
 use mathlib.Core.Bool.{true, false}
 use mathlib.Core.Logic.{_↔_, _⊎_}
+use mathlib.Core.Option.{none, some}
 use lib.ListN.{length, replicate}
 use Rattle.error.specs.declared.Refusal.{Refusal}
 use Rattle.error.specs.declared.Refusal.the-variants.{StrangeFile, UnknownWord, Unfinished, TooLarge}
@@ -18,7 +19,8 @@ use Rattle.build.specs.Demands as B
 use Rattle.build.specs.Demands.{Answers, programOf, Frame, Gets, ReadsPast}
 use Rattle.typing.specs.declared.TypeResult.{TypeResult}
 use Rattle.typing.specs.declared.TypeResult.the-variants.{Length, Refused}
-use Rattle.typing.specs.Words.{wordOf, AllInWord, spotted, wordsFrom, lineWords}
+use Rattle.typing.specs.Words.{address, number, keywords, keyword, wordOf, AllInWord, spotted, wordsFrom, lineWords}
+use Rattle.typing.specs.Numerals.{PortNumber, Dotted}
 use Rattle.typing.specs.Phrase.{Phrase, wordsOf, recordCount, Within, says, treeOf, fileOf}
 use Rattle.typing.specs.Finds.{Spot, spots, words, unknown, unfinished, Finds}
 use Rattle.typing.specs.Typed.{typed}
@@ -60,6 +62,14 @@ pub record Spaced : Type 0 where
   pub one : (at b : ℕ) (s : List ℕ) → AllInWord (b ∷ s) → wordsFrom false at (b ∷ s) ≡ spotted at (wordOf (b ∷ s)) ∷ []
   -- a space parts the words before it from those after it
   pub space : (at : ℕ) (s t : List ℕ) → wordsFrom false at (s ++ (0x20 ∷ t)) ≡ wordsFrom false at s ++ wordsFrom false (at + length s + 1) t
+
+-- ---- "an address is four decimals up to 255, a port one up to 65,535, without leading zeros"
+
+pub record Numerals : Type 0 where
+  pub addresses : (s : List ℕ) (v : ℕ) → (wordOf s ≡ some (address v)) ↔ Dotted s v
+  pub ports : (s : List ℕ) (n : ℕ) → (wordOf s ≡ some (number n)) ↔ PortNumber s n
+  -- "none of these words and no such address or port number"
+  pub unknown : (s : List ℕ) → (wordOf s ≡ none) ↔ ((keyword keywords s ≡ none) × ((v : ℕ) → ¬ Dotted s v) × ((n : ℕ) → ¬ PortNumber s n))
 
 -- ---- of a program P of the build of a file T, and a frame F: the verdict is what a phrase says
 

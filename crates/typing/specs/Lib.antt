@@ -1,4 +1,5 @@
 pub mod Words
+pub mod Numerals
 pub mod Phrase
 pub mod Finds
 pub mod Parse
