@@ -43,7 +43,7 @@ abbrev pub frameNumber : Out ℕ → ℕ
 frameNumber (refused r) = numberOf r * 2 ^ 32
 frameNumber (done n) = n
 
--- T-04, of a typed line: its file's bytes, or refusal × 2^32 + place
+-- T-04, of a typed line: its file's length in bytes, or refusal × 2^32 + place
 abbrev pub typeNumber : TypeResult → ℕ
 typeNumber (Length n) = n
 typeNumber (Refused r place) = numberOf r * 2 ^ 32 + place

@@ -1,5 +1,5 @@
--- T-04, in the customer's order and words, of what calls of `type_line` answer and leave. `proofs/Types.antt` proves it of every link byte
--- and line from what the functions promise.
+-- T-04, in the customer's words: what words are, and what calls of `type_line` answer and leave. `proofs/Types.antt` proves it of every
+-- link byte and line from what the functions promise.
 use Prim.Native.Nat.{ℕ, _+_, _*_, _-_, _<_, _≤_}
 use mathlib.Core.Path.{_≡_}
 use mathlib.Core.List.{List, [], _∷_, _++_}

@@ -23,8 +23,8 @@ pub data Term : Type 0 where
   hosts : Option Side → ℕ → Term
   ports : Option Transport → Option Side → ℕ → Term
 
--- "brackets, not, and, or": "not binds tightest, and and or bind equally and join from the left". So a not is before a term, a
--- not or brackets, and on the right of an and or an or stands none of these that is not in brackets.
+-- "brackets, not, and, or": "not binds tightest, and and or bind equally and join from the left". So a not stands before a term, a not or
+-- brackets, and what stands right of an and or an or has no other join outside brackets.
 mutual
   pub data Operand : Type 0 where
     term : Term → Operand
