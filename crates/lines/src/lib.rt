@@ -24,7 +24,8 @@ pub const PROTOCOL_AT: u64 = 16777216;
 
 pub const VALUE_AT: u64 = 4294967296;
 
-// What stands before the next word: protocols and directions by their bytes, 0 for none.
+// What stands before the next word: where a condition has to follow; a protocol that may be alone; a protocol and a side; `host` and its
+// side; `port` with both; a whole phrase. Protocols and sides are their bytes in a record, 0 for none.
 enum Spot {
     Want,
     Lone(u8),
@@ -34,7 +35,8 @@ enum Spot {
     Full,
 }
 
-// What a word does.
+// What a word does: it cannot follow; it goes on to another spot; it ends a condition (kind, side, protocol, value); it is a bracket, a not,
+// or a join of a kind.
 enum Move {
     Refuse,
     Go(Spot),
@@ -60,6 +62,7 @@ enum Step {
     Done(Sum),
 }
 
+// What a line is: a word that is unknown, or one that cannot follow, at a place; or a phrase, with its records and the most brackets open.
 pub enum Scan {
     Strange(usize),
     Unfinished(usize),
