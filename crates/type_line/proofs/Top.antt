@@ -14,12 +14,12 @@ use Rattle.ast.specs.declared.LinkType.{LinkType}
 use Rattle.ast.specs.File.{linkOf}
 use Rattle.typing.specs.Words.{lineWords}
 use Rattle.typing.specs.Phrase.{Operand, term, nay, brackets, Phrase, one, two, operandRecords, recordCount, depth, Within, fileOf, zeros}
-use Rattle.typing.specs.Finds.{Found, phrase, unknown, unfinished, Finds, whole}
+use Rattle.typing.specs.Finds.{Found, phrase, unknown, unfinished, Finds}
 use Rattle.typing.specs.Parse.{start, scan}
 use Rattle.typing.specs.declared.TypeResult.{TypeResult}
 use Rattle.typing.specs.declared.TypeResult.the-variants.{Length, Refused}
 use Rattle.typing.specs.Typed.{Typed, placed, rejected, within, sized, typed}
-use Rattle.typing.proofs.Answers.{never, typed-found, true-within}
+use Rattle.typing.proofs.Answers.{never, found-words, typed-found, true-within}
 use Rattle.typing.proofs.Passes.{file-length}
 use Rattle.lines.specs.declared.Scan.the-variants as S
 use Rattle.lines.specs.Reads.{Result, result, scans, begin}
@@ -35,10 +35,7 @@ use Rattle.type_line.proofs.Whole.{phrase-count, in-order, reads-line}
 -- ---- the phrase of a line is small
 
 small-found : (end : ℕ) (line : List ℕ) (p : Phrase) (f : Found) → Finds end (lineWords line) f → f ≡ phrase p → SmallPhrase p
-small-found end line p _ (Rattle.typing.specs.Finds.not-known ss k rest e b) h = never cc
-small-found end line p _ (Rattle.typing.specs.Finds.cannot-follow ss k w rest e b n) h = never cc
-small-found end line p _ (Rattle.typing.specs.Finds.not-ended ss e b n) h = never cc
-small-found end line p _ (whole ss q e w) h = let same : q ≡ p = cc in in-range line ss p e (rw same at w)
+small-found end line p f h e = let k = found-words f h e in in-range line (k .0) p (k .1) (k .2)
 
 -- ---- what was found
 

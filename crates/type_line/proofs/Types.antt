@@ -31,10 +31,10 @@ use Rattle.build.proofs.Demands.{demands}
 use Rattle.typing.specs.declared.TypeResult.the-variants.{Length, Refused}
 use Rattle.typing.specs.Words.{lineWords}
 use Rattle.typing.specs.Phrase.{Phrase, phraseBytes, recordCount, Within, says, treeOf, fileOf}
-use Rattle.typing.specs.Finds.{Found, phrase, unknown, unfinished, Finds, not-known, cannot-follow, not-ended, whole}
+use Rattle.typing.specs.Finds.{Found, phrase, unknown, unfinished, Finds, whole}
 use Rattle.typing.specs.Parse.{start, scan}
 use Rattle.typing.specs.Typed.{Typed, placed, rejected, within, sized, linked, typed}
-use Rattle.typing.proofs.Answers.{never, typed-of, typed-found, one-finding, within-true, true-within}
+use Rattle.typing.proofs.Answers.{never, found-words, typed-of, typed-found, one-finding, within-true, true-within}
 use Rattle.typing.proofs.Passes.{file-length, file-header, passes, file-says}
 use Rattle.typing.proofs.Spaces.{space-parts, one-word}
 use Rattle.typing.proofs.Numerals as N
@@ -127,10 +127,7 @@ says-found : (line : List ℕ) (p : Phrase) → Says line p → Finds (length li
 says-found line p s = whole (s .the-words) p (s .known) (s .said)
 
 found-says : (line : List ℕ) (p : Phrase) (f : Found) → Finds (length line) (lineWords line) f → f ≡ phrase p → Says line p
-found-says line p _ (not-known ss k rest e b) h = never cc
-found-says line p _ (cannot-follow ss k w rest e b n) h = never cc
-found-says line p _ (not-ended ss e b n) h = never cc
-found-says line p _ (whole ss q e w) h = let same : q ≡ p = cc in record { the-words = ss; known = e; said = rw same at w }
+found-says line p f h e = let k = found-words f h e in record { the-words = k .0; known = k .1; said = k .2 }
 
 -- ---- what a file's build turns down
 

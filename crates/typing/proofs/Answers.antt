@@ -207,6 +207,14 @@ typed-of link line l f e h = rw (e, found-scan (length line) (lineWords line) f 
 pub typed-found : (link : ℕ) (line : List ℕ) → Finds (length line) (lineWords line) (scan (length line) start (lineWords line))
 typed-found link line = found (length line) (lineWords line)
 
+-- the words of a phrase that is found
+pub found-words : {end : ℕ} {all : List Placed} {p : Phrase} (f : Found) → Finds end all f → f ≡ phrase p
+    → (ss : List Spot) × (all ≡ spots ss) × (wordsOf p ≡ words ss)
+found-words _ (not-known ss k rest e b) h = never cc
+found-words _ (cannot-follow ss k w rest e b n) h = never cc
+found-words _ (not-ended ss e b n) h = never cc
+found-words {p = p} _ (whole ss q e w) h = let same : q ≡ p = cc in (ss, e, rw same at w)
+
 -- ---- an answer tells what was found
 
 pub both-true : (a b : Bool) → a && b ≡ true → (a ≡ true) × (b ≡ true)
