@@ -10,7 +10,7 @@ use lib.ListN.{length, length-append, set}
 use lib.Seq.{sets}
 use lib.Dec.{eqb·suc-zero}
 use Rattle.typing.specs.Words.{Transport, tcp, udp, sctp, Side, Join, Word, name, over, side, host, port, opening, closing, negate, join, address, number, Placed, known, strange}
-use Rattle.typing.specs.Phrase.{Term, named, bare, hosts, ports, Operand, term, nay, brackets, Phrase, one, operandDepth, depth}
+use Rattle.typing.specs.Phrase.{Term, named, bare, hosts, ports, Operand, term, negated, brackets, Phrase, one, operandDepth, depth}
 use Rattle.typing.specs.Phrase.{dirByte, transportByte, maybeByte, joinByte}
 use Rattle.typing.specs.Finds.{Found, phrase, unknown, unfinished}
 use Rattle.typing.specs.Parse.{Level, fresh, after, notted, nots, fill, State, want, lone, sided, hosted, ported, full, close, sidedHost, step, ended, final, ends, scan}
@@ -89,7 +89,7 @@ not-snoc d (suc n) r = ap (λ x. item d 3 0 0 0 ∷ x) (not-snoc d n r)
 nots-items : (d n : ℕ) (o : Operand) → operandItems d (nots n o) ≡ notItems d n ++ operandItems d o
 unfolding notItems
 nots-items d zero o = refl
-nots-items d (suc n) o = nots-items d n (nay o) ∙ not-snoc d n (operandItems d o)
+nots-items d (suc n) o = nots-items d n (negated o) ∙ not-snoc d n (operandItems d o)
 
 fill-items : (d : ℕ) (l : Level) (o : Operand) → phraseItems d (fill l o) ≡ levelItems d l ++ operandItems d o
 unfolding levelItems
@@ -100,7 +100,7 @@ fill-items d (after p j n) o =
 
 nots-deep : (n : ℕ) (o : Operand) → operandDepth (nots n o) ≡ operandDepth o
 nots-deep zero o = refl
-nots-deep (suc n) o = nots-deep n (nay o)
+nots-deep (suc n) o = nots-deep n (negated o)
 
 fill-deep : (l : Level) (o : Operand) → depth (fill l o) ≡ max (levelDeep l) (operandDepth o)
 unfolding levelDeep

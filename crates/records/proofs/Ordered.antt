@@ -7,7 +7,7 @@ use native.Mathlib.Omega.{arith}
 use lib.Dec.{leb}
 use borrow.Author.Tests.{le-leb, lt-leb, leb-true, leb-false, ne-eqb}
 use Rattle.typing.specs.Words.{Join, and, or}
-use Rattle.typing.specs.Phrase.{Term, named, bare, hosts, ports, Operand, term, nay, brackets, Phrase, one, two, operandDepth, depth, joinByte}
+use Rattle.typing.specs.Phrase.{Term, named, bare, hosts, ports, Operand, term, negated, brackets, Phrase, one, two, operandDepth, depth, joinByte}
 use Rattle.lines.specs.Reads.{item}
 use Rattle.lines.specs.Items.{termItem, operandItems, phraseItems}
 use Rattle.records.specs.Order.{isJoin, Popped, popped, popFrom, pop, placed, put, order, operandPrefix, phrasePrefix}
@@ -107,7 +107,7 @@ module _ (tail : List ℕ) where
         → pop (suc d) (order tail (operandItems d o ++ xs)) ≡ popped (operandPrefix d o ++ dn) pe
     operand-order (term t) d xs dn pe e b h =
         leaf-order (termItem d t) d xs dn pe (term-depth d t (omega arith)) (term-leaf d t) b (ap (pop (suc d)) e ∙ pop-below (suc d) dn pe b)
-    operand-order (nay o) d xs dn pe e b h =
+    operand-order (negated o) d xs dn pe e b h =
         leaf-order (item d 3 0 0 0) d (operandItems d o ++ xs) (operandPrefix d o ++ dn) pe (item-depth d 3 0 0 0 (omega arith))
         (not-join d 0 0 0 3 (omega arith) (λ z. omega arith) (λ z. omega arith)) b (operand-order o d xs dn pe e b h)
     operand-order (brackets p) d xs dn pe e b h =

@@ -5,7 +5,7 @@ use mathlib.Core.List.{[], _∷_, _++_, append-nil}
 use mathlib.Core.Option.{Option, none, some}
 use native.Mathlib.Omega.{arith}
 use Rattle.typing.specs.Words.{Transport, tcp, udp, sctp, Name, ip, ip6, arp, rarp, icmp, Side, src, dst, Join, and, or}
-use Rattle.typing.specs.Phrase.{Term, named, bare, hosts, ports, Operand, term, nay, brackets, Phrase, one, two}
+use Rattle.typing.specs.Phrase.{Term, named, bare, hosts, ports, Operand, term, negated, brackets, Phrase, one, two}
 use Rattle.typing.specs.Phrase.{dirByte, nameByte, transportByte, maybeByte, joinByte, recordBytes, termRecord, operandBytes, phraseBytes}
 use Rattle.lines.specs.Reads.{item}
 use Rattle.lines.specs.Items.{termItem}
@@ -23,7 +23,7 @@ SmallTerm (ports t s k) = k < 2 ^ 16
 abbrev mutual
   pub SmallOperand : Operand → Type 0
   SmallOperand (term t) = SmallTerm t
-  SmallOperand (nay o) = SmallOperand o
+  SmallOperand (negated o) = SmallOperand o
   SmallOperand (brackets p) = SmallPhrase p
 
   pub SmallPhrase : Phrase → Type 0
@@ -97,7 +97,7 @@ not-bytes d = item-bytes d 3 0 0 0 (omega arith) (omega arith) (omega arith)
 mutual
   operand-bytes : (o : Operand) (d : ℕ) → SmallOperand o → fileBytes (operandPrefix d o) ≡ operandBytes o
   operand-bytes (term t) d h = append-nil (itemBytes (termItem d t)) ∙ term-bytes d t h
-  operand-bytes (nay o) d h = ap₂ _++_ (not-bytes d) (operand-bytes o d h)
+  operand-bytes (negated o) d h = ap₂ _++_ (not-bytes d) (operand-bytes o d h)
   operand-bytes (brackets p) d h = phrase-bytes p (suc d) h
 
   pub phrase-bytes : (p : Phrase) (d : ℕ) → SmallPhrase p → fileBytes (phrasePrefix d p) ≡ phraseBytes p

@@ -5,7 +5,7 @@ use mathlib.Core.List.{List, [], _∷_, _++_}
 use mathlib.Core.Bool.{Bool, true, false, cond, _||_}
 use lib.ListN.{length, getD, drop}
 use lib.Dec.{eqb, leb}
-use Rattle.typing.specs.Phrase.{Operand, term, nay, brackets, Phrase, one, two, joinByte}
+use Rattle.typing.specs.Phrase.{Operand, term, negated, brackets, Phrase, one, two, joinByte}
 use Rattle.lines.specs.Reads.{item}
 use Rattle.lines.specs.Items.{termItem}
 
@@ -43,7 +43,7 @@ order tail (x ∷ xs) = put x (order tail xs)
 abbrev mutual
   pub operandPrefix : ℕ → Operand → List ℕ
   operandPrefix d (term t) = termItem d t ∷ []
-  operandPrefix d (nay o) = item d 3 0 0 0 ∷ operandPrefix d o
+  operandPrefix d (negated o) = item d 3 0 0 0 ∷ operandPrefix d o
   operandPrefix d (brackets p) = phrasePrefix (suc d) p
 
   pub phrasePrefix : ℕ → Phrase → List ℕ

@@ -10,7 +10,7 @@ use lib.Dec.{eqb}
 use Rattle.bpf.specs.Bytes.{be, AreBytes}
 use Rattle.bpf.proofs.Bytes.{be-small}
 use Rattle.typing.specs.Words.{Word, name, over, side, host, port, opening, closing, negate, join, address, number, Row, keywords, same, keyword, decimal, before, octets, four, parts, either, made, wordOf, upTo, inWord, Placed, known, strange, spotted, wordsFrom}
-use Rattle.typing.specs.Phrase.{Term, named, bare, hosts, ports, Operand, term, nay, brackets, Phrase, one, two, maybe, termWords, operandWords, wordsOf}
+use Rattle.typing.specs.Phrase.{Term, named, bare, hosts, ports, Operand, term, negated, brackets, Phrase, one, two, maybe, termWords, operandWords, wordsOf}
 use Rattle.typing.specs.Finds.{Spot, spots, words}
 use Rattle.words.proofs.Addresses.{decimal-small}
 use Rattle.records.proofs.Records.{SmallTerm, SmallOperand, SmallPhrase}
@@ -133,7 +133,7 @@ term-small (ports t s k) h = small-parts (maybe side s) (port ∷ number k ∷ [
 mutual
   operand-small : (o : Operand) → SmallWords (operandWords o) → SmallOperand o
   operand-small (term t) h = term-small t h
-  operand-small (nay o) h = operand-small o (h .1)
+  operand-small (negated o) h = operand-small o (h .1)
   operand-small (brackets p) h = phrase-small p (small-parts (wordsOf p) (closing ∷ []) (h .1) .0)
 
   phrase-small : (p : Phrase) → SmallWords (wordsOf p) → SmallPhrase p

@@ -13,7 +13,7 @@ use Rattle.error.specs.declared.Refusal.the-variants.{StrangeFile, UnknownWord,
 use Rattle.ast.specs.declared.LinkType.{LinkType}
 use Rattle.ast.specs.File.{linkOf}
 use Rattle.typing.specs.Words.{lineWords}
-use Rattle.typing.specs.Phrase.{Operand, term, nay, brackets, Phrase, one, two, operandRecords, recordCount, depth, Within, fileOf, zeros}
+use Rattle.typing.specs.Phrase.{Operand, term, negated, brackets, Phrase, one, two, operandRecords, recordCount, depth, Within, fileOf, zeros}
 use Rattle.typing.specs.Finds.{Found, phrase, unknown, unfinished, Finds}
 use Rattle.typing.specs.Parse.{start, scan}
 use Rattle.typing.specs.declared.TypeResult.{TypeResult}
@@ -70,7 +70,7 @@ module _ (l₀ : List ℕ) where
 mutual
   operand-prefix : (d : ℕ) (o : Operand) → length (operandPrefix d o) ≡ operandRecords o
   operand-prefix d (term t) = refl
-  operand-prefix d (nay o) = ap suc (operand-prefix d o)
+  operand-prefix d (negated o) = ap suc (operand-prefix d o)
   operand-prefix d (brackets p) = prefix-count (suc d) p
 
   prefix-count : (d : ℕ) (p : Phrase) → length (phrasePrefix d p) ≡ recordCount p

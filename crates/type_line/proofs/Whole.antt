@@ -6,7 +6,7 @@ use native.Mathlib.Omega.{arith}
 use lib.ListN.{length, length-append, take, drop}
 use lib.Seq.{sets-eq, take-at}
 use Rattle.typing.specs.Words.{Placed}
-use Rattle.typing.specs.Phrase.{Operand, term, nay, brackets, Phrase, one, two, operandRecords, recordCount, depth, joinByte}
+use Rattle.typing.specs.Phrase.{Operand, term, negated, brackets, Phrase, one, two, operandRecords, recordCount, depth, joinByte}
 use Rattle.typing.specs.Parse.{start, scan}
 use Rattle.lines.specs.Reads.{item, begin, scans}
 use Rattle.lines.specs.Items.{operandItems, phraseItems}
@@ -23,7 +23,7 @@ reads-line l₀ end ws = simulate l₀ end ws start
 mutual
   operand-count : (d : ℕ) (o : Operand) → length (operandItems d o) ≡ operandRecords o
   operand-count d (term t) = refl
-  operand-count d (nay o) = ap suc (operand-count d o)
+  operand-count d (negated o) = ap suc (operand-count d o)
   operand-count d (brackets p) = phrase-count (suc d) p
 
   pub phrase-count : (d : ℕ) (p : Phrase) → length (phraseItems d p) ≡ recordCount p

@@ -4,7 +4,7 @@ use mathlib.Core.Path.{_≡_, refl, sym, ap, _∙_}
 use mathlib.Core.List.{List, [], _∷_, _++_, append-assoc, append-nil}
 use mathlib.Core.Option.{Option, none, some}
 use Rattle.typing.specs.Words.{Transport, Side, Join, Word, name, ip, over, side, host, port, opening, closing, negate, join, address, number}
-use Rattle.typing.specs.Phrase.{Term, named, bare, hosts, ports, Operand, term, nay, brackets, Phrase, one, two, maybe, termWords, operandWords, wordsOf}
+use Rattle.typing.specs.Phrase.{Term, named, bare, hosts, ports, Operand, term, negated, brackets, Phrase, one, two, maybe, termWords, operandWords, wordsOf}
 use Rattle.typing.specs.Finds.{Begins}
 use Rattle.typing.specs.Parse.{Level, fresh, after, notted, nots, fill, State, want, lone, sided, hosted, ported, full, close, sidedHost, step, ended, final, start}
 
@@ -31,7 +31,7 @@ lone-full t l ls at-end = refl
 lone-full t l ls at-join = refl
 lone-full t l ls at-close = refl
 
-fill-notted : (l : Level) (o : Operand) → fill (notted l) o ≡ fill l (nay o)
+fill-notted : (l : Level) (o : Operand) → fill (notted l) o ≡ fill l (negated o)
 fill-notted (fresh n) o = refl
 fill-notted (after p j n) o = refl
 
@@ -51,7 +51,7 @@ mutual
 
   operand-read : (o : Operand) (l : Level) (ls : List Level) (rest : List Word) → Stops rest → parse (want l ls) (operandWords o ++ rest) ≡ parse (full (fill l o) ls) rest
   operand-read (term t) l ls rest h = term-read t l ls rest h
-  operand-read (nay o) l ls rest h = operand-read o (notted l) ls rest h ∙ ap (λ p. parse (full p ls) rest) (fill-notted l o)
+  operand-read (negated o) l ls rest h = operand-read o (notted l) ls rest h ∙ ap (λ p. parse (full p ls) rest) (fill-notted l o)
   operand-read (brackets p) l ls rest h =
       ap (parse (want (fresh 0) (l ∷ ls))) (append-assoc (wordsOf p) (closing ∷ []) rest) ∙ phrase-read p (l ∷ ls) (closing ∷ rest) at-close
 
@@ -103,7 +103,7 @@ before (full p ls) = outer ls ++ wordsOf p
 nots-words : (n : ℕ) (o : Operand) → operandWords (nots n o) ≡ repeat n ++ operandWords o
 unfolding repeat
 nots-words zero o = refl
-nots-words (suc n) o = nots-words n (nay o) ∙ repeat-snoc n (operandWords o)
+nots-words (suc n) o = nots-words n (negated o) ∙ repeat-snoc n (operandWords o)
 
 fill-words : (l : Level) (o : Operand) → wordsOf (fill l o) ≡ levelWords l ++ operandWords o
 unfolding levelWords

@@ -21,7 +21,7 @@ use Rattle.direct.specs.declared.DirectResult.the-variants.{Is}
 use Rattle.direct.specs.Reading.{kind, ipv4, readsProto, readsPrimitive, reads}
 use Rattle.direct.specs.Direct.{direct}
 use Rattle.typing.specs.Words.{tcp, udp, sctp, ip, ip6, arp, rarp, icmp, src, dst, Join, and, or}
-use Rattle.typing.specs.Phrase.{Term, named, bare, hosts, ports, Operand, term, nay, brackets, Phrase, one, two, Within}
+use Rattle.typing.specs.Phrase.{Term, named, bare, hosts, ports, Operand, term, negated, brackets, Phrase, one, two, Within}
 use Rattle.typing.specs.Phrase.{operandRecords, recordCount, dirOf, maybeProto, termLeaf, operandTree, treeOf, joined, joinByte}
 use Rattle.typing.specs.Phrase.{recordBytes, termRecord, operandBytes, phraseBytes, fileOf, termSays, operandSays, says}
 
@@ -128,7 +128,7 @@ term-length (ports t s k) = refl
 mutual
   operand-length : (o : Operand) → length (operandBytes o) ≡ 24 * operandRecords o
   operand-length (term t) = term-length t
-  operand-length (nay o) = omega (arith, operand-length o)
+  operand-length (negated o) = omega (arith, operand-length o)
   operand-length (brackets p) = phrase-length p
 
   phrase-length : (p : Phrase) → length (phraseBytes p) ≡ 24 * recordCount p
@@ -163,7 +163,7 @@ mutual
       → Has s (operandRecords o + n) at (prefix (operandTree o) ++ ns)
   operand-has (term t) s rest n at ns e h =
       moved s (suc n) (1 + n) at at _ (omega arith) refl (has-next s _ n at (LeafNode (termLeaf t)) ns e (term-node t rest) h)
-  operand-has (nay o) s rest n at ns e h =
+  operand-has (negated o) s rest n at ns e h =
       moved s (suc (operandRecords o + n)) (suc (operandRecords o) + n) at at _ (omega arith) refl
       (has-next s _ (operandRecords o + n) at NotNode (prefix (operandTree o) ++ ns) e (not-node (operandBytes o ++ rest))
       (operand-has o s rest n (at + 24) ns (behind s at _ _ e refl)
@@ -183,7 +183,7 @@ mutual
 mutual
   operand-some : (o : Operand) → 1 ≤ operandRecords o
   operand-some (term t) = omega arith
-  operand-some (nay o) = omega (arith, operand-some o)
+  operand-some (negated o) = omega (arith, operand-some o)
   operand-some (brackets p) = phrase-some p
 
   phrase-some : (p : Phrase) → 1 ≤ recordCount p
@@ -193,7 +193,7 @@ mutual
 mutual
   operand-records : (o : Operand) → records (operandTree o) ≡ operandRecords o
   operand-records (term t) = refl
-  operand-records (nay o) = ap suc (operand-records o)
+  operand-records (negated o) = ap suc (operand-records o)
   operand-records (brackets p) = phrase-records p
 
   pub phrase-records : (p : Phrase) → records (treeOf p) ≡ recordCount p
@@ -265,7 +265,7 @@ module _ (L : LinkType) (f : List ℕ) where
 
     operand-reads : (o : Operand) → reads L f (operandTree o) ≡ operandSays L f o
     operand-reads (term t) = term-reads t
-    operand-reads (nay o) = ap not (operand-reads o)
+    operand-reads (negated o) = ap not (operand-reads o)
     operand-reads (brackets p) = phrase-reads p
 
     pub phrase-reads : (p : Phrase) → reads L f (treeOf p) ≡ says L f p

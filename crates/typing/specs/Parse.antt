@@ -4,7 +4,7 @@ use Prim.Native.Nat.{ℕ, zero, suc}
 use mathlib.Core.List.{List, [], _∷_}
 use mathlib.Core.Option.{Option, none, some}
 use Rattle.typing.specs.Words.{Transport, Side, Join, Word, name, over, side, host, port, opening, closing, negate, join, address, number, Placed, known, strange}
-use Rattle.typing.specs.Phrase.{named, bare, hosts, ports, Operand, term, nay, brackets, Phrase, one, two}
+use Rattle.typing.specs.Phrase.{named, bare, hosts, ports, Operand, term, negated, brackets, Phrase, one, two}
 use Rattle.typing.specs.Finds.{Found, phrase, unknown, unfinished}
 
 -- what stands before the next operand inside one pair of brackets: perhaps a phrase and its join, and nots
@@ -18,7 +18,7 @@ notted (after p j n) = after p j (suc n)
 
 abbrev pub nots : ℕ → Operand → Operand
 nots zero o = o
-nots (suc n) o = nots n (nay o)
+nots (suc n) o = nots n (negated o)
 
 abbrev pub fill : Level → Operand → Phrase
 fill (fresh n) o = one (nots n o)

@@ -28,7 +28,7 @@ pub data Term : Type 0 where
 mutual
   pub data Operand : Type 0 where
     term : Term → Operand
-    nay : Operand → Operand
+    negated : Operand → Operand
     brackets : Phrase → Operand
 
   pub data Phrase : Type 0 where
@@ -50,7 +50,7 @@ termWords (ports t s n) = maybe over t ++ (maybe side s ++ (port ∷ number n �
 abbrev mutual
   pub operandWords : Operand → List Word
   operandWords (term t) = termWords t
-  operandWords (nay o) = negate ∷ operandWords o
+  operandWords (negated o) = negate ∷ operandWords o
   operandWords (brackets p) = opening ∷ (wordsOf p ++ (closing ∷ []))
 
   pub wordsOf : Phrase → List Word
@@ -62,7 +62,7 @@ abbrev mutual
 abbrev mutual
   pub operandRecords : Operand → ℕ
   operandRecords (term t) = 1
-  operandRecords (nay o) = suc (operandRecords o)
+  operandRecords (negated o) = suc (operandRecords o)
   operandRecords (brackets p) = recordCount p
 
   pub recordCount : Phrase → ℕ
@@ -72,7 +72,7 @@ abbrev mutual
 abbrev mutual
   pub operandDepth : Operand → ℕ
   operandDepth (term t) = 0
-  operandDepth (nay o) = operandDepth o
+  operandDepth (negated o) = operandDepth o
   operandDepth (brackets p) = suc (depth p)
 
   pub depth : Phrase → ℕ
@@ -128,7 +128,7 @@ module _ (L : LinkType) (f : List ℕ) where
   abbrev mutual
     pub operandSays : Operand → Bool
     operandSays (term t) = termSays t
-    operandSays (nay o) = not (operandSays o)
+    operandSays (negated o) = not (operandSays o)
     operandSays (brackets p) = says p
 
     pub says : Phrase → Bool
@@ -174,7 +174,7 @@ joined or l r = Or l r
 abbrev mutual
   pub operandTree : Operand → Expr
   operandTree (term t) = Leaf (termLeaf t)
-  operandTree (nay o) = Not (operandTree o)
+  operandTree (negated o) = Not (operandTree o)
   operandTree (brackets p) = treeOf p
 
   pub treeOf : Phrase → Expr
@@ -230,7 +230,7 @@ joinByte or = 2
 abbrev mutual
   pub operandBytes : Operand → List ℕ
   operandBytes (term t) = termRecord t
-  operandBytes (nay o) = recordBytes 3 0 0 0 0 ++ operandBytes o
+  operandBytes (negated o) = recordBytes 3 0 0 0 0 ++ operandBytes o
   operandBytes (brackets p) = phraseBytes p
 
   pub phraseBytes : Phrase → List ℕ
