@@ -6,9 +6,9 @@ samples/try.py
 Every tree is run over every frame of its link. The direct reading has to be
 what make.py says of the tree by hand, the verdict the same, but short on some
 of the frames that end early. The captures of these frames have to keep as many
-as are accepted. A line has to give the file of its tree, and in that file's
-place the same answers. Then the trees, lines and captures that are refused. The
-last line is
+as are accepted. A tree's size has to be its listing's count. A line has to give
+the file of its tree, and in that file's place the same answers. Then the trees,
+lines and captures that are refused. The last line is
 `N compared, M differences`; the status is 1 if M is not 0. What the command
 does with files and streams is tried by bin/test/command.py, and with captures
 of any size by bin/test/captures.py.
@@ -93,6 +93,20 @@ def try_trees(tally):
             try_captures(tally, folder, tree, kept, len(names))
 
 
+def size_of(path):
+    """Instructions and bytes, by the listing's first line."""
+    count = int(run("list", path)[0][0])
+    return f"{count} instructions, {8 * count} bytes"
+
+
+def try_sizes(tally):
+    """The trees of each link by one command."""
+    for link, folder in make.FOLDERS.items():
+        files = [f"{make.HERE / folder}/{tree}.pft" for tree, (links, _, _) in make.TREES.items() if link in links]
+        lines = [f"{file}: {size_of(file)}" for file in files]
+        tally.expect(f"{folder}, sizes", run("size", *files), (lines, [], 0))
+
+
 def try_line(tally, name, link):
     """The file of a line, and each command with the line in the file's place."""
     folder = make.HERE / make.FOLDERS[link]
@@ -105,6 +119,7 @@ def try_line(tally, name, link):
     for command, files in (("list", []), ("run", frames), ("count", [str(folder / "all.pcap")])):
         typed = run(command, "--type", *words, *files)
         tally.expect(f"pft {command} --type {words}", typed, run(command, str(tree), *files))
+    tally.expect(f"pft size --type {words}", run("size", "--type", *words), ([f"{line}: {size_of(tree)}"], [], 0))
 
 
 def try_lines(tally):
@@ -141,6 +156,7 @@ def try_refused(tally):
         message = f"{path}: refused {number}, {WORDS[number]}"
         tally.expect(path, run("run", path, frame), (lines, [message], 1))
         tally.expect(f"{path}, count", run("count", path, frame), ([], [message], 1))
+        tally.expect(f"{path}, size", run("size", path), ([], [message], 1))
 
 
 def try_refused_captures(tally):
@@ -159,7 +175,7 @@ def main():
         print("usage: samples/try.py", file=sys.stderr)
         sys.exit(2)
     tally = Tally()
-    for part in (try_trees, try_lines, try_refused, try_refused_lines, try_refused_captures):
+    for part in (try_trees, try_sizes, try_lines, try_refused, try_refused_lines, try_refused_captures):
         part(tally)
     print(f"{tally.compared} compared, {tally.differences} differences")
     sys.exit(1 if tally.differences else 0)

@@ -29,6 +29,7 @@ LISTING = "5\n40 0 0 12\n21 0 1 2048\n5 0 0 1\n6 0 0 4294967295\n6 0 0 0\n"
 # LinuxSll, ether source 02:00:00:00:00:01: its length, then its six bytes.
 SENDER_LISTING = "8\n40 0 0 4\n21 0 5 6\n32 0 0 6\n21 0 3 33554432\n40 0 0 10\n21 0 1 1\n6 0 0 4294967295\n6 0 0 0\n"
 ACCEPTED = "accepted, steps 10, direct reading true"
+WEB_SIZE, NOT_IP_SIZE, SENDER_SIZE = (f"{n} instructions, {8 * n} bytes" for n in (11, 5, 8))
 NOBODY = 65534
 GIGABYTE = 1 << 30
 SECONDS = 60
@@ -72,19 +73,24 @@ def try_input(tally):
     tally.expect("list - < TREE", shell('bin/pft list - < "$1"', NOT_IP), (LISTING, "", 0))
     tally.expect("pft-list < TREE", shell('bin/pft-list < "$1"', NOT_IP), (LISTING, "", 0))
     tally.expect("./pft-list < TREE", shell('./pft-list < "$1"', NOT_IP), (LISTING, "", 0))
-    for command in ("bin/pft list", "bin/pft-list"):
+    sizes = f"{WEB}: {WEB_SIZE}\nstandard input: {NOT_IP_SIZE}\n"
+    tally.expect("size TREE - < TREE", shell('bin/pft size "$1" - < "$2"', WEB, NOT_IP), (sizes, "", 0))
+    for command in ("bin/pft list", "bin/pft size -", "bin/pft-list"):
         directory = "standard input: cannot be read, it is a directory\n"
         closed = "standard input: cannot be read, it is not open\n"
         tally.expect(f"{command} < .", shell(f"{command} < ."), ("", directory, 3))
         tally.expect(f"{command} <&-", shell(f"{command} <&-"), ("", closed, 3))
     strange = "standard input: refused 1, strange file\n"
     tally.expect("list of nothing", shell("bin/pft list < /dev/null"), ("", strange, 1))
+    tally.expect("size of nothing", shell("bin/pft size - < /dev/null"), ("", strange, 1))
     tally.expect("pft-list of nothing", shell("bin/pft-list < /dev/null"), ("refused 1\n", "", 1))
     frame = f"standard input: {ACCEPTED}\n"
     tally.expect("run TREE -", shell('bin/pft run "$1" - < "$2"', WEB, GOOD), (frame, "", 0))
     tally.expect("run - FRAME", shell('bin/pft run - "$2" < "$1"', WEB, GOOD), (f"{GOOD}: {ACCEPTED}\n", "", 0))
     twice = "standard input: named twice, and it can be read once\n"
-    tally.expect("run - -", run("run", "-", "-"), ("", twice + usage("pft/run")[1], 2))
+    for command in ("run", "size"):
+        wanted = "", twice + usage(f"pft/{command}")[1], 2
+        tally.expect(f"{command} - -", run(command, "-", "-"), wanted)
 
 
 def try_output(tally):
@@ -94,6 +100,7 @@ def try_output(tally):
     tries = {
         "bin/pft list": 'bin/pft list "$1"',
         "bin/pft list -d": 'bin/pft list -d "$1"',
+        "bin/pft size": 'bin/pft size "$1" "$1"',
         "bin/pft-list": 'bin/pft-list < "$1"',
         "bin/pft-list, refused": 'bin/pft-list < "$2"',
         "bin/pft run": 'bin/pft run "$1" "$3" "$3"',
@@ -114,10 +121,11 @@ def try_large(tally):
     """What tells that a file is too long is read, and no more."""
     wanted = "standard input: refused 1, strange file\n"
     began = time.monotonic()
-    with tempfile.TemporaryFile() as file:
-        file.truncate(5 * GIGABYTE)
-        tally.expect("5 GB", run("list", stdin=file), ("", wanted, 1))
-        tally.expect("5 GB, how much was read", os.lseek(file.fileno(), 0, os.SEEK_CUR), 4096)
+    for words in (["list"], ["size", "-"]):
+        with tempfile.TemporaryFile() as file:
+            file.truncate(5 * GIGABYTE)
+            tally.expect(f"{words}, 5 GB", run(*words, stdin=file), ("", wanted, 1))
+            tally.expect(f"{words}, 5 GB, how much was read", os.lseek(file.fileno(), 0, os.SEEK_CUR), 4096)
     tally.expect("zeros without end", shell("bin/pft list < /dev/zero"), ("", wanted, 1))
     tally.expect("zeros by pft-list", shell("bin/pft-list < /dev/zero"), ("refused 1\n", "", 1))
     tally.expect("a pipe without end", shell("cat /dev/zero | bin/pft list"), ("", wanted, 1))
@@ -156,9 +164,37 @@ def try_frames(tally, room):
     tally.expect("a strange tree", run("run", STRANGE, GOOD), ("", f"{STRANGE}: refused 1, strange file\n", 1))
 
 
+def try_sizes(tally, room):
+    """Trees that are refused or cannot be read are passed over, the first one too; the largest status holds."""
+    odd = f"{room}/a: 2 instructions, 16 bytes.pft"
+    shutil.copy(NOT_IP, odd)
+    words = [f"{room}/none", WEB, room, f"{WEB}/x", "", FAR, "x" * 300, "x" * 5000, COOKED, STRANGE, GOOD, odd, SENDER]
+    lines = [f"{WEB}: {WEB_SIZE}", f"{odd}: {NOT_IP_SIZE}", f"{SENDER}: {SENDER_SIZE}"]
+    reasons = [
+        f"{room}/none: cannot be read, no such file",
+        f"{room}: cannot be read, it is a directory",
+        f"{WEB}/x: cannot be read, a part of its path is not a directory",
+        ": cannot be read, no such file",
+        f"{FAR}: refused 8, far jump",
+        "x" * 300 + ": cannot be read, its name is too long",
+        "argument 9: cannot be read, its name is too long",
+        f"{COOKED}: refused 15, cooked address",
+        f"{STRANGE}: refused 1, strange file",
+        f"{GOOD}: refused 1, strange file",
+    ]
+    wanted = "\n".join(lines) + "\n", "\n".join(reasons) + "\n", 3
+    tally.expect("sizes of all sorts", run("size", *words), wanted)
+    some = f"{WEB}: {WEB_SIZE}\n", f"{FAR}: refused 8, far jump\n", 1
+    tally.expect("a size that is refused", run("size", FAR, WEB), some)
+    cut = "awk '{ print $(NF - 3) }'"
+    help = (ROOT / "bin" / "help" / "pft" / "size.txt").read_text()
+    tally.expect("the help's awk", f"| {cut}\n" in help, True)
+    tally.expect("counts alone", shell(f'bin/pft size "$1" "$2" | {cut}', odd, WEB), ("5\n11\n", "", 0))
+
+
 def try_trees(tally, room):
-    for command in (["list"], ["list", "-d"], ["run"], ["count"]):
-        frame = [GOOD] if command[0] != "list" else []
+    for command in (["list"], ["list", "-d"], ["size"], ["run"], ["count"]):
+        frame = [GOOD] if command[0] in ("run", "count") else []
         for tree, reason in ((f"{room}/none", "no such file"), (room, "it is a directory")):
             message = f"{tree}: cannot be read, {reason}\n"
             tally.expect(f"{command} {tree}", run(*command, tree, *frame), ("", message, 3))
@@ -169,7 +205,7 @@ def try_trees(tally, room):
 def try_cooked(tally):
     """Ether addresses on LinuxSll: a destination is refused, and read directly all the same; a source is tested."""
     message = f"{COOKED}: refused 15, cooked address\n"
-    for words in (["list", COOKED], ["list", "-d", COOKED], ["count", COOKED, CAPTURE]):
+    for words in (["list", COOKED], ["list", "-d", COOKED], ["size", COOKED], ["count", COOKED, CAPTURE]):
         tally.expect(f"{words[0]} of a cooked address", run(*words), ("", message, 1))
     read = f"{SENT}: not run, direct reading true\n", message, 1
     tally.expect("run of a cooked address", run("run", COOKED, SENT), read)
@@ -196,6 +232,7 @@ def try_usage(tally):
     tries = {
         "pft": [""],
         "pft/list": ["list -x", "list a b", "list a -d"],
+        "pft/size": ["size", "size -x", "size -x tree"],
         "pft/run": ["run", "run tree", "run -x frame"],
         "pft/count": ["count", "count tree", "count -x capture"],
     }
@@ -241,7 +278,7 @@ def copy_program(room):
 
 def try_unmade(tally, room):
     """Help and version come before the program is made."""
-    for name in ("pft", "pft/type", "pft/list", "pft/run", "pft/count"):
+    for name in ("pft", "pft/type", "pft/list", "pft/size", "pft/run", "pft/count"):
         words = f"{name[4:]} --help"
         text = (ROOT / "bin" / "help" / f"{name}.txt").read_text()
         tally.expect(f"{words}, not made", run(*words.split(), root=room), (text, "", 0))
@@ -301,7 +338,7 @@ def main():
     for part in (try_input, try_output, try_large, try_cooked, try_usage, try_unproved):
         part(tally)
     with tempfile.TemporaryDirectory(prefix="pft test ") as room:
-        for part in (try_frames, try_trees, try_link):
+        for part in (try_frames, try_sizes, try_trees, try_link):
             part(tally, room)
     with tempfile.TemporaryDirectory(prefix="pft test ") as room:
         os.chmod(room, 0o755)

@@ -12,7 +12,7 @@ import sys
 import tempfile
 
 sys.dont_write_bytecode = True
-from command import ACCEPTED, CAPTURE, GOOD, LISTING, NOT_IP, ROOT, SAMPLES, WEB, Tally, run, shell, usage
+from command import ACCEPTED, CAPTURE, GOOD, LISTING, NOT_IP, NOT_IP_SIZE, ROOT, SAMPLES, WEB, Tally, run, shell, usage
 
 ALL = str(SAMPLES / "ethernet" / "all.pcap")
 RAW = str(SAMPLES / "rawip" / "tcp80.frame")
@@ -208,6 +208,16 @@ def try_list(tally):
     tally.expect("type | list - of a fault", shell(pipe, "nut ip"), ("", messages, 1))
 
 
+def try_size(tally):
+    tally.expect("size --type", run("size", "--type", "ethernet", "not ip"), (f"not ip: {NOT_IP_SIZE}\n", "", 0))
+    pipe = 'bin/pft type ethernet "$1" | bin/pft size -'
+    tally.expect("type | size -", shell(pipe, "not ip"), (f"standard input: {NOT_IP_SIZE}\n", "", 0))
+    long = ["--type", "1", " or ".join(["ip"] * 13)]
+    count = int(run("list", *long)[0].split()[0])
+    size = "ip or " * 12 + f"...: {count} instructions, {8 * count} bytes\n"
+    tally.expect("size of a longer line", run("size", *long), (size, "", 0))
+
+
 def try_files(tally):
     """Frames and captures, from files and from standard input."""
     accepted, kept = f"{GOOD}: {ACCEPTED}\n", f"{ALL}: kept 2 of 21 frames\n"
@@ -238,14 +248,17 @@ def try_refused(tally):
     raw = "arp or tcp: refused 5, kind on raw\n"
     line = ["--type", "raw", "arp or tcp"]
     tally.expect("list of arp on raw", run("list", *line), ("", raw, 1))
+    tally.expect("size of arp on raw", run("size", *line), ("", raw, 1))
     tally.expect("count of arp on raw", run("count", *line, "none"), ("", raw, 1))
     read = f"{RAW}: not run, direct reading true\n"
     tally.expect("run of arp on raw", run("run", *line, RAW), (read, raw, 1))
     far = "port 80 or " * 6 + "port 8...: refused 8, far jump\n"
-    tally.expect("a far jump", run("list", "--type", "1", " or ".join(["port 80"] * 64)), ("", far, 1))
+    for command in ("list", "size"):
+        words = [command, "--type", "1", " or ".join(["port 80"] * 64)]
+        tally.expect(f"{command} of a far jump", run(*words), ("", far, 1))
     wanted = fault("ip or", 5, 17, 5, START)
-    for command in (["list"], ["list", "-d"], ["run"], ["count"]):
-        files = ["none"] if command[0] != "list" else []
+    for command in (["list"], ["list", "-d"], ["size"], ["run"], ["count"]):
+        files = ["none"] if command[0] in ("run", "count") else []
         tally.expect(f"{command} of a fault", run(*command, "--type", "1", "ip or", *files), wanted)
 
 
@@ -253,10 +266,12 @@ def try_refused(tally):
 
 
 def try_usage(tally):
-    for words in ("type", "type ethernet", "list --type", "list --type raw", "list -d --type raw", "run --type",
-                  "run --type raw", "run --type raw ip", "count --type raw ip", "list -d -dd --type raw ip"):  # fmt: skip
+    for words in ("type", "type ethernet", "list --type", "list --type raw", "list -d --type raw", "size --type",
+                  "size --type raw", "run --type", "run --type raw", "run --type raw ip", "count --type raw ip",
+                  "list -d -dd --type raw ip"):  # fmt: skip
         tally.expect(words, run(*words.split()), usage(f"pft/{words.split()[0]}"))
-    for words in ("type ethernet tcp and port 80", "list --type 1 tcp and port 80", "list --type 1 ip -d"):
+    for words in ("type ethernet tcp and port 80", "list --type 1 tcp and port 80", "list --type 1 ip -d",
+                  "size --type 1 tcp and port 80", "size --type 1 ip tree"):  # fmt: skip
         tally.expect(words, run(*words.split()), usage(f"pft/{words.split()[0]}", QUOTES))
     for link in ("0", "4", "01", "eth0", "Ethernet", "", "-"):
         tally.expect(f"type {link!r}", run("type", link, "ip"), usage("pft/type", f"{link}: {LINKS}\n"))
@@ -285,7 +300,7 @@ def main():
         print("usage: bin/test/lines.py", file=sys.stderr)
         sys.exit(2)
     tally = Tally()
-    for part in (try_trees, try_sizes, try_faults, try_list, try_files, try_refused, try_usage, try_output):
+    for part in (try_trees, try_sizes, try_faults, try_list, try_size, try_files, try_refused, try_usage, try_output):
         part(tally)
     print(f"{tally.compared} compared, {tally.differences} differences")
     sys.exit(1 if tally.differences else 0)

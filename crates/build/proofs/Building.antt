@@ -1,57 +1,67 @@
--- A compiled program in the lent buffer, against what the definition leaves there.
-use Prim.Native.Nat.{ℕ, zero, suc, _+_, _-_, _*_, _/_, _≤_, _<_}
-use mathlib.Core.Path.{_≡_, refl, sym, ap, _∙_, subst}
-use mathlib.Core.List.{List, [], _∷_, _++_}
+-- A generated program in the cleared buffer, against what the definitions leave there.
+use Prim.Native.Nat.{ℕ, zero, suc, _-_, _*_, _≤_}
+use mathlib.Core.Path.{_≡_, refl, sym, ap, ap₂, _∙_}
+use mathlib.Core.List.{List, _++_}
+use mathlib.Core.Bool.{Bool, true, false, cond}
 use native.Mathlib.Omega.{arith}
-use borrow.Author.Tests.{lt-ltb, le-ltb}
-use lib.ListN.{length, take, drop, replicate, length-take, length-replicate}
+use borrow.Author.Tests.{ltb-false, eq-eqb, ne-eqb}
+use lib.ListN.{length, drop, replicate, length-replicate}
+use lib.Dec.{ltb}
 use Rattle.error.specs.declared.Refusal.{Refusal}
-use Rattle.error.specs.declared.Refusal.the-variants.{ShortBuffer}
-use Rattle.error.specs.Answer.{Out, refused, done, _>>=_}
+use Rattle.error.specs.declared.Refusal.the-variants.{ShortBuffer, CountMoved}
+use Rattle.error.specs.Answer.{refused, done}
 use Rattle.bpf.specs.declared.Insn.{Insn}
+use Rattle.bpf.specs.Bytes.{AreBytes}
 use Rattle.bpf.specs.Program.{programBytes}
-use Rattle.bpf.proofs.Programs.{length-program}
 use Rattle.ast.specs.declared.LinkType.{LinkType}
-use Rattle.ast.specs.File.{countOf, parse}
+use Rattle.ast.specs.File.{Filter, parse}
+use Rattle.ast.proofs.Bounds.{parse-proper}
+use Rattle.ast.proofs.Walk.{parse-records}
 use Rattle.codegen.specs.Compile.{compile}
-use Rattle.codegen.proofs.Shape.{weight}
-use Rattle.codegen.proofs.Sound.{weight-records}
-use Rattle.reader.specs.Reader.{treeOf}
-use Rattle.output.specs.Words.{bytesOf}
-use Rattle.output.proofs.Parts.{bytes-length}
+use Rattle.reader.specs.declared.Checked.the-variants as K
+use Rattle.reader.specs.Reader.{treeOf, checked}
+use Rattle.reader.proofs.Checks.{check-link, check-refused}
 use Rattle.compile.specs.declared.Compiled.{Compiled}
 use Rattle.compile.specs.declared.Compiled.the-variants as C
-use Rattle.compile.specs.Walks.{Programs, Compiles, Ready}
+use Rattle.generate.specs.Promises.{Stands, written, Counts, Generates}
+use Rattle.generate.proofs.Generating.{Made, made, turned}
 use Rattle.build.specs.declared.BuildResult.{BuildResult}
 use Rattle.build.specs.declared.BuildResult.the-variants.{Count, Refused}
-use Rattle.build.specs.Build.{into, program, build}
-use Rattle.build.specs.Promises.{Cleared, Checked, Into}
+use Rattle.build.specs.Build.{rejected, placed, into, program, build, asked, question, load}
+use Rattle.build.specs.Promises.{answerOf}
 
--- ---- what was compiled
+-- ---- the file
 
-pub record Held (o : Out (List Insn)) (I : List ℕ) (n : ℕ) : Type 0 where
-  pub made : List Insn
-  pub eq : o ≡ done made
-  pub size : n ≡ length made
-  pub bytes : bytesOf (take n I) ≡ programBytes made
+-- one that passed the checks
+pub stands : (s : List ℕ) (L : LinkType) → AreBytes s → checked (parse s) ≡ K.Link L → Stands s
+stands s L z e =
+    let k = check-link s L e in
+    let f : Filter = record { link = L; tree = treeOf s 0 } in
+    record { here = k .0; all = k .1; proper = parse-proper s z f (k .2) .0; size = parse-records s f (k .2) }
 
-refused-of : (o : Out (List Insn)) (I : List ℕ) (q : Refusal) → Programs o I (C.Refused q) → o ≡ refused q
-refused-of (done p) I q h = absurd h
-refused-of (refused r) I q h = ap refused (sym h)
+pub program-of : (s : List ℕ) (L : LinkType) → checked (parse s) ≡ K.Link L → program s ≡ compile L (treeOf s 0)
+unfolding program
+program-of s L e = rw (check-link s L e .2)
 
-held-of : (o : Out (List Insn)) (I : List ℕ) (n : ℕ) → Programs o I (C.Count n) → Held o I n
-held-of (done p) I n h = record { made = p; eq = refl; size = h .0; bytes = h .1 }
-held-of (refused r) I n h = absurd h
+pub program-refused : (s : List ℕ) (q : Refusal) → checked (parse s) ≡ K.Refused q → program s ≡ refused q
+unfolding program
+program-refused s q e = rw (check-refused s q e)
 
-module _ {o : Out (List Insn)} {I : List ℕ} {r : Compiled} (h : Compiles o I r) where
-  pub not-made : {q : Refusal} → r ≡ C.Refused q → o ≡ refused q
-  not-made {q} e = refused-of o I q (subst (λ x. Programs o I x) e (h .is))
+-- ---- the load
 
-  pub held : {n : ℕ} → r ≡ C.Count n → Held o I n
-  held {n} e = held-of o I n (subst (λ x. Programs o I x) e (h .is))
+-- of a tree that is turned down, of one that still has the count, and of one that has another
+module _ (s : List ℕ) (count lent : ℕ) where
+  pub load-refused : {q : Refusal} → program s ≡ refused q → load s count lent ≡ rejected lent q
+  unfolding load
+  load-refused e = rw e
 
-pub held-fits : {o : Out (List Insn)} {I : List ℕ} {n : ℕ} → Held o I n → n ≤ length I
-held-fits {I = I} {n} h = omega (arith, bytes-length (take n I), ap length (h .bytes), length-program (h .made), h .size, length-take n I)
+  pub load-same : {n : ℕ} → Made (program s) n → n ≡ count → load s count lent ≡ build s lent
+  unfolding load build
+  load-same m h = rw (m .eq, eq-eqb (length (m .insns)) count (sym (m .size) ∙ h))
+
+  pub load-other : {n : ℕ} → Made (program s) n → ¬ (n ≡ count) → load s count lent ≡ rejected lent CountMoved
+  unfolding load
+  load-other m h = rw (m .eq, ne-eqb (length (m .insns)) count (λ e. h (m .size ∙ e)))
 
 -- ---- in the buffer
 
@@ -60,58 +70,56 @@ drop-zeros n zero h = let e : n - 0 ≡ n = omega arith in rw e
 drop-zeros zero (suc m) h = absurd (omega arith)
 drop-zeros (suc n) (suc m) h = let e : suc n - suc m ≡ n - m = omega arith in rw e (drop-zeros n m (omega arith))
 
-pub into-refused : {o : Out (List Insn)} {b : List ℕ} {q : Refusal} (lent : ℕ) → o ≡ refused q → b ≡ replicate lent 0 → Into o lent b (Refused q)
-into-refused lent e z = record { answer = rw e; buffer = rw e z }
+-- a program that is written over zeros
+over : (lent : ℕ) (p : List Insn)
+    → (answerOf lent (length p) ≡ into lent (done p) .answer) × (written (done p) (replicate lent 0) ≡ into lent (done p) .buffer)
+over lent p = rw length-replicate (by (ltb lent (8 * length p)) refl)
+  where
+    by : (t : Bool) → ltb lent (8 * length p) ≡ t
+        → (cond t (Refused ShortBuffer) (Count (length p)) ≡ cond t (rejected lent ShortBuffer) (placed lent p) .answer)
+        × (cond t (replicate lent 0) (programBytes p ++ drop (8 * length p) (replicate lent 0)) ≡ cond t (rejected lent ShortBuffer) (placed lent p) .buffer)
+    by true e = (refl, refl)
+    by false e = (refl, ap (λ l. programBytes p ++ l) (drop-zeros lent (8 * length p) (ltb-false lent (8 * length p) e)))
 
-module _ {o : Out (List Insn)} {I b : List ℕ} {n : ℕ} (lent : ℕ) (h : Held o I n) where
-  pub into-short : lent < 8 * n → b ≡ replicate lent 0 → Into o lent b (Refused ShortBuffer)
-  into-short s z =
-      let t = lt-ltb lent (8 * length (h .made)) (rw (h .size) at s) in
-      record { answer = rw (h .eq, t); buffer = rw (h .eq, t) z }
+-- ---- the build and the load, after what was generated over zeros
 
-  pub into-placed : (b₀ : List ℕ) → 8 * n ≤ lent → b₀ ≡ replicate lent 0 → b ≡ bytesOf (take n I) ++ drop (8 * n) b₀ → Into o lent b (Count n)
-  into-placed b₀ s z w =
-      let t = le-ltb lent (8 * length (h .made)) (rw (h .size) at s) in
-      record {
-        answer = rw (h .eq, t) (ap Count (h .size));
-        buffer = rw (h .eq, t) (w ∙ rw (h .bytes, z, drop-zeros lent (8 * n) s, h .size));
-      }
+module _ (s : List ℕ) (lent : ℕ) {b b′ : List ℕ} {r : Compiled} (z : b ≡ replicate lent 0) (g : Generates (program s) b b′ r) where
+  over-turned : {q : Refusal} → r ≡ C.Refused q → b′ ≡ replicate lent 0
+  over-turned e = g .part ∙ rw (turned (g .counts) e, z)
 
--- ---- the file
+  pub build-turned : {q : Refusal} → r ≡ C.Refused q → (Refused q ≡ build s lent .answer) × (b′ ≡ build s lent .buffer)
+  unfolding build
+  build-turned e = rw (turned (g .counts) e) (refl, over-turned e)
 
-pub builds : (s : List ℕ) (lent : ℕ) {o : Out (List Insn)} {b : List ℕ} {r : BuildResult} → program s ≡ o → Into o lent b r
-    → (r ≡ build s lent .answer) × (b ≡ build s lent .buffer)
-unfolding build
-builds s lent e h = (rw e (h .answer), rw e (h .buffer))
+  pub build-made : {n : ℕ} → r ≡ C.Count n → {a : BuildResult} {long : ℕ} → long ≡ lent → a ≡ answerOf long n
+      → (a ≡ build s lent .answer) × (b′ ≡ build s lent .buffer)
+  unfolding build
+  build-made e k w =
+      let m = made (g .counts) e in
+      let h = over lent (m .insns) in (
+        w ∙ ap₂ answerOf k (m .size) ∙ h .0 ∙ ap (λ x. into lent x .answer) (sym (m .eq)),
+        g .part ∙ ap₂ (λ x y. written x y) (m .eq) z ∙ h .1 ∙ ap (λ x. into lent x .buffer) (sym (m .eq)),
+      )
 
-pub program-of : (s : List ℕ) (L : LinkType) → parse s ≡ done (record { link = L; tree = treeOf s 0 }) → program s ≡ compile L (treeOf s 0)
-unfolding program
-program-of s L e = rw e
+  module _ (count : ℕ) where
+    pub load-turned : {q : Refusal} → r ≡ C.Refused q → (Refused q ≡ load s count lent .answer) × (b′ ≡ load s count lent .buffer)
+    load-turned e = rw (load-refused s count lent (turned (g .counts) e)) (refl, over-turned e)
 
-pub program-refused : (s : List ℕ) (q : Refusal) → parse s ≡ refused q → program s ≡ refused q
-unfolding program
-program-refused s q e = rw e
+    pub load-made : {n : ℕ} → r ≡ C.Count n → n ≡ count → {a : BuildResult} {long : ℕ} → long ≡ lent → a ≡ answerOf long n
+        → (a ≡ load s count lent .answer) × (b′ ≡ load s count lent .buffer)
+    load-made e h k w = rw (load-same s count lent (made (g .counts) e) h) (build-made e k w)
 
--- ---- arrays for so many records
+    pub load-moved : {n : ℕ} → r ≡ C.Count n → ¬ (n ≡ count) → {b″ : List ℕ} → b″ ≡ replicate lent 0
+        → (Refused CountMoved ≡ load s count lent .answer) × (b″ ≡ load s count lent .buffer)
+    load-moved e h y = rw (load-other s count lent (made (g .counts) e) h) (refl, y)
 
--- the most lines of a tree of n records
-abbrev linesOf : ℕ → ℕ
-linesOf n = 60 * (suc n / 2) + suc n - 25
+-- ---- the question
 
-pub ready : {s M I Y N : List ℕ} (most : ℕ) → Checked s most → 5 * most ≤ length M → linesOf most + 2 ≤ length I → linesOf most ≤ length Y → linesOf most ≤ length N
-    → length I ≤ 65536 → Ready s M I Y N
-ready {s} most c m i y n cap =
-    let w : weight (treeOf s 0) ≤ linesOf most = omega (arith, weight-records (treeOf s 0), c .few, c .size) in
-    record {
-      here = c .here;
-      all = c .all;
-      proper = c .proper;
-      notes = omega (arith, c .few);
-      insns = omega arith;
-      successes = omega arith;
-      failures = omega arith;
-      cap = cap;
-    }
+module _ (s : List ℕ) {r : Compiled} (g : Counts (program s) r) where
+  pub question-turned : {q : Refusal} → r ≡ C.Refused q → Refused q ≡ question s
+  unfolding question
+  question-turned e = ap asked (sym (turned g e))
 
-pub cleared : {b : List ℕ} (n : ℕ) → b ≡ replicate n 0 → Cleared b
-cleared {b} n e = let l : length b ≡ n = ap length e ∙ rw length-replicate in record { zero = e ∙ ap (λ (k : ℕ). replicate {A = ℕ} k 0) (sym l) }
+  pub question-made : {n : ℕ} → r ≡ C.Count n → Count n ≡ question s
+  unfolding question
+  question-made e = let m = made g e in ap (λ k. Count k) (m .size) ∙ ap asked (sym (m .eq))

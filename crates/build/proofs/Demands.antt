@@ -7,7 +7,7 @@ use mathlib.Core.Logic.{_↔_, _⊎_, inl, inr}
 use native.Mathlib.Omega.{arith}
 use lib.ListN.{length, replicate, take, drop, take-append-drop}
 use lib.Seq.{take-at, take-length}
-use lib.Dec.{ltb, T}
+use lib.Dec.{T}
 use borrow.Author.Tests.{ltb-false, ltb-true, lt-ltb, le-ltb}
 use Rattle.error.specs.declared.Refusal.{Refusal}
 use Rattle.error.specs.declared.Refusal.the-variants.{ShortBuffer}
@@ -79,17 +79,17 @@ program-met T z =
 -- ---- what a build left
 
 -- a build that answered a count: its program, which is then in the buffer
-record Left (o : Out (List Insn)) (lent count : ℕ) : Type 0 where
-  insns : List Insn
-  is : o ≡ done insns
-  size : length insns ≡ count
-  fits : 8 * count ≤ lent
-  bytes : take (8 * count) (into lent o .buffer) ≡ programBytes insns
+pub record Left (o : Out (List Insn)) (lent count : ℕ) : Type 0 where
+  pub insns : List Insn
+  pub is : o ≡ done insns
+  pub size : length insns ≡ count
+  pub fits : 8 * count ≤ lent
+  pub bytes : take (8 * count) (into lent o .buffer) ≡ programBytes insns
 
-never : {A : Type 0} {r : Refusal} {c : ℕ} → _≡_ {A = BuildResult} (Refused r) (Count c) → A
+pub never : {A : Type 0} {r : Refusal} {c : ℕ} → _≡_ {A = BuildResult} (Refused r) (Count c) → A
 never e = let z : _≡_ {A = ℕ} 0 1 = cc in absurd (omega arith)
 
-left : (o : Out (List Insn)) (lent count : ℕ) → into lent o .answer ≡ Count count → Left o lent count
+pub left : (o : Out (List Insn)) (lent count : ℕ) → into lent o .answer ≡ Count count → Left o lent count
 left (refused r) lent count e = never e
 left (done p) lent count e = go (tooShort lent p) refl e
   where
@@ -106,7 +106,7 @@ left (done p) lent count e = go (tooShort lent p) refl e
         }
 
 -- more lent, or less
-more : (p : List Insn) (lent : ℕ) → 8 * length p ≤ lent → into lent (done p) .answer ≡ Count (length p)
+pub more : (p : List Insn) (lent : ℕ) → 8 * length p ≤ lent → into lent (done p) .answer ≡ Count (length p)
 more p lent h = rw (le-ltb lent (8 * length p) h)
 
 less : (p : List Insn) (lent : ℕ) → lent < 8 * length p → into lent (done p) .answer ≡ Refused ShortBuffer
@@ -121,7 +121,7 @@ zeroed (done p) lent r e = go (tooShort lent p) e
     go true e = refl
     go false e = never (sym e)
 
-refusal : {r s : Refusal} → _≡_ {A = BuildResult} (Refused r) (Refused s) → r ≡ s
+pub refusal : {r s : Refusal} → _≡_ {A = BuildResult} (Refused r) (Refused s) → r ≡ s
 refusal e = cc
 
 steady : (o : Out (List Insn)) (lent : ℕ) (r : Refusal) → into lent o .answer ≡ Refused r → ¬ (numberOf r ≡ 9) → (other : ℕ) → into other o .answer ≡ Refused r
@@ -135,13 +135,13 @@ steady (done p) lent r e h other = go (tooShort lent p) e
 -- the number of a refusal
 
 -- of a tree file's own
-own : List ℕ
+unfoldable pub own : List ℕ
 own = early ++ late
 
-Own : Refusal → Type 0
+unfoldable pub Own : Refusal → Type 0
 Own = Numbered own
 
-program-turned : (T : List ℕ) → Turned Own (program T)
+pub program-turned : (T : List ℕ) → Turned Own (program T)
 unfolding program Own own
 program-turned T =
     turned-bind Own (parse T) _ (turned-map _ Own (parse T) (numbered-more early own tt) (parse-turned T))
@@ -334,11 +334,12 @@ module _ (T : List ℕ) (z : AreBytes T) where
 pub kept : (T : List ℕ) → Kept T (defined T)
 kept T = record { answers = λ lent. refl; leaves = λ lent. refl; runs = λ P F. refl; reads = λ F. refl }
 
+-- and no other calls do
+pub kept-only : (T : List ℕ) (c : Calls) → Kept T c → c ≡ defined T
+kept-only T c k i = record { answer = λ lent. k .answers lent i; buffer = λ lent. k .leaves lent i; ran = λ P F. k .runs P F i; read = λ F. k .reads F i }
+
 -- demands 1 and 3, of every tree file and of all calls that keep their promises
 pub demands : (T : List ℕ) → AreBytes T → (c : Calls) → Kept T c → Demands T c
 demands T z c k =
-    subst (Demands T) (sym same)
+    subst (Demands T) (sym (kept-only T c k))
     (record { first = demand-1 T z; third = λ lent count a. demand-3 T z lent count (answered T z lent count a) })
-  where
-    same : c ≡ defined T
-    same i = record { answer = λ lent. k .answers lent i; buffer = λ lent. k .leaves lent i; ran = λ P F. k .runs P F i; read = λ F. k .reads F i }

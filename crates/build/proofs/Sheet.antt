@@ -43,10 +43,10 @@ not t = join 3 t []
 abbrev protocol : ℕ → List ℕ
 protocol p = node 10 0 p 0 0 0 []
 
-abbrev Ip : List ℕ
+abbrev pub Ip : List ℕ
 Ip = protocol 1
 
-abbrev Ip6 : List ℕ
+abbrev pub Ip6 : List ℕ
 Ip6 = protocol 2
 
 abbrev Tcp : List ℕ
@@ -73,10 +73,10 @@ lent = 160
 abbrev file : ℕ → List ℕ → List ℕ
 file link records = 0x50 ∷ 0x46 ∷ 0x54 ∷ 0 ∷ 1 ∷ link ∷ 0 ∷ (length records / 24) ∷ records
 
-abbrev ethernet : List ℕ → List ℕ
+abbrev pub ethernet : List ℕ → List ℕ
 ethernet = file 1
 
-abbrev rawIp : List ℕ → List ℕ
+abbrev pub rawIp : List ℕ → List ℕ
 rawIp = file 2
 
 -- ---- what the sheet says of a build and of runs of its program

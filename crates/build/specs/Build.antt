@@ -1,11 +1,11 @@
--- The build: a tree file's program in a lent buffer, or a refusal.
+-- The build: a tree file's program in a lent buffer, or a refusal. And its two halves: the question and the load.
 use Prim.Native.Nat.{ℕ, _*_, _-_}
 use mathlib.Core.List.{List, [], _∷_, _++_, map}
 use mathlib.Core.Bool.{Bool, cond}
 use lib.ListN.{length, replicate}
-use lib.Dec.{ltb}
+use lib.Dec.{eqb, ltb}
 use Rattle.error.specs.declared.Refusal.{Refusal}
-use Rattle.error.specs.declared.Refusal.the-variants.{ShortBuffer}
+use Rattle.error.specs.declared.Refusal.the-variants.{ShortBuffer, CountMoved}
 use Rattle.error.specs.Answer.{Out, refused, done, _>>=_, numberOf}
 use Rattle.bpf.specs.declared.Insn.{Insn}
 use Rattle.bpf.specs.Program.{programBytes}
@@ -19,7 +19,7 @@ pub record Built : Type 0 where
   pub answer : BuildResult
   pub buffer : List ℕ
 
--- "A refusal of 1 to 9 zeroes the whole program buffer."; T-03, of 15: "zeroing the buffer, like 7"
+-- "A refusal of 1 to 9 zeroes the whole program buffer."; T-03, of 15: "zeroing the buffer, like 7"; T-05, of 19: "the buffer zero"
 abbrev pub rejected : ℕ → Refusal → Built
 rejected lent r = record { answer = Refused r; buffer = replicate lent 0 }
 
@@ -62,3 +62,22 @@ refusalOf (Refused r) = numberOf r
 abbrev pub countOf : BuildResult → ℕ
 countOf (Count c) = c
 countOf (Refused r) = 0
+
+-- ---- T-05, "Size first, load after"
+
+-- "a question that returns the instruction count or refusal"
+abbrev pub asked : Out (List Insn) → BuildResult
+asked (refused r) = Refused r
+asked (done p) = Count (length p)
+
+-- "and touches no buffer": none is lent
+unfoldable pub question : List ℕ → BuildResult
+question tree = asked (program tree)
+
+-- "if the tree still has that count"; else 19 "count moved"
+abbrev pub still : ℕ → List Insn → Out (List Insn)
+still count p = cond (eqb (length p) count) (done p) (refused CountMoved)
+
+-- "a load that takes that count. The load writes what document 01 says"; 19 comes "after 1 to 8 and 15, before 9, the buffer zero"
+unfoldable pub load : List ℕ → ℕ → ℕ → Built
+load tree count lent = into lent (program tree >>= still count)

@@ -21,7 +21,7 @@ use Rattle.emit.specs.declared.Patches.{Patches}
 use Rattle.emit.specs.Lines.{packs, resolve, Below, places}
 use Rattle.emit.specs.Grown.{Grew, Resolves, Ended}
 use Rattle.emit.proofs.Grow.{packs-length}
-use Rattle.emit.proofs.Settling.{law, image, whole, resolves-near, resolves-lines, settled-success, failure-segment}
+use Rattle.emit.proofs.Settling.{law, whole, far-law, resolves-near, resolves-long, resolves-lines, settled-success, failure-segment}
 use Rattle.emit.proofs.Outcome.{ended-far, ended-grew}
 use Rattle.output.specs.Words.{insnOf, bytesOf}
 use Rattle.output.proofs.Parts.{bytes-append}
@@ -59,7 +59,7 @@ far-settle e d (l ∷ B) h =
 module _ {B : Block} {I₀ Y₀ N₀ I Y N : List ℕ} {p : Patches} (g : Grew B I₀ Y₀ N₀ start I Y N p) (I₁ : List ℕ) (r : Bool)
     (q : Resolves (resolve (slice 0 (p .success) Y) (p .insns) I) I₁ r) where
   first : Ended (settle success 0 B) I₀ Y₀ N₀ start I₁ Y N (record { insns = p .insns; success = 0; failure = p .failure; «x_writes» = p .«x_writes» }) r
-  first = settled-success g (omega arith) (omega arith) I₁ r q
+  first = settled-success g (omega arith) I₁ r q
 
   pub first-far : r ≡ false → far (finished B) ≡ true
   unfolding finished
@@ -69,20 +69,24 @@ module _ {B : Block} {I₀ Y₀ N₀ I Y N : List ℕ} {p : Patches} (g : Grew B
     grown : Grew (settle success 0 B) I₀ Y₀ N₀ start I₁ Y N (record { insns = p .insns; success = 0; failure = p .failure; «x_writes» = p .«x_writes» })
     grown = ended-grew first e
 
-    second : Resolves (image [] (drop (p .insns) I₁) (finished B)) I₂ r₂
-    unfolding finished
-    second =
-        subst (λ x. Resolves x I₂ r₂)
-        (ap (λ (x : List ℕ). resolve x (p .insns + 1) I₁) (failure-segment grown (omega arith))
-        ∙ ap (resolve (places failure 0 (settle success 0 B)) (p .insns + 1)) (whole grown)
-        ∙ law failure [] (drop (p .insns) I₁) (settle success 0 B) 0 (p .insns + 1) 1 (grown .near) refl (omega (arith, grown .insns)))
-        q₂
+    segment : slice 0 (p .failure) N ≡ places failure 0 (settle success 0 B)
+    segment = failure-segment grown (omega arith)
 
     pub second-near : r₂ ≡ not (far (finished B))
-    second-near = resolves-near (far (finished B)) _ I₂ r₂ second
+    unfolding finished
+    second-near =
+        resolves-near (resolve (places failure 0 (settle success 0 B)) (p .insns + 1) I₁) I₂ r₂ (rw segment at q₂)
+        ∙ ap not (far-law failure (settle success 0 B) 0 (p .insns + 1) 1 I₁ (grown .near) (omega (arith, grown .insns)))
 
-    pub second-lines : far (finished B) ≡ false → I₂ ≡ packs (finished B) ++ drop (p .insns) I₁
-    second-lines f = resolves-lines (far (finished B)) _ I₂ r₂ f second
+    pub second-lines : far (finished B) ≡ false → p .insns ≤ length I₂ → I₂ ≡ packs (finished B) ++ drop (p .insns) I₁
+    unfolding finished
+    second-lines f k =
+        let h : p .insns ≤ length I₁ = omega (arith, resolves-long (slice 0 (p .failure) N) (p .insns + 1) I₁ I₂ r₂ (second-near ∙ ap not f) q₂) in
+        let w =
+        ap (λ (x : List ℕ). resolve x (p .insns + 1) I₁) segment
+        ∙ ap (resolve (places failure 0 (settle success 0 B)) (p .insns + 1)) (whole grown h)
+        ∙ law failure [] (drop (p .insns) I₁) (settle success 0 B) 0 (p .insns + 1) 1 (grown .near) refl (omega (arith, grown .insns)) in
+        resolves-lines (far (finished B)) _ I₂ r₂ f (subst (λ x. Resolves x I₂ r₂) w q₂)
 
     pub second-length : length (finished B) ≡ p .insns
     unfolding finished
@@ -111,18 +115,19 @@ take-two A R n v w e h =
     let b : n + 2 ≡ suc (n + 1) = omega arith in
     rw (b, take-suc-set J (n + 1) w k) (rw a (append-assoc A (v ∷ []) (w ∷ [])))
 
-pub done-program : (b : Block) (I R : List ℕ) (n : ℕ) → far b ≡ false → length b ≡ n → I ≡ packs b ++ R → n + 2 ≤ length I
+pub done-program : (b : Block) (I R : List ℕ) (n : ℕ) → far b ≡ false → length b ≡ n → (n ≤ length I → I ≡ packs b ++ R)
     → Compiles (resolved b >>= λ c. done (map assemble c ++ returns)) (set (set I n 0xffff_ffff_0000_0006) (n + 1) 6) (Count (n + 2))
-done-program b I R n f e q h =
-    rw f (record {
-      is = (
-        omega (arith, length-append (map assemble b) returns, map-length b),
-        ap bytesOf (rw q (take-two (packs b) R n 0xffff_ffff_0000_0006 6 (packs-length b ∙ e) (rw q at h)))
-            ∙ bytes-append (packs b) (0xffff_ffff_0000_0006 ∷ 6 ∷ [])
-            ∙ ap₂ _++_ (block-bytes b f) return-bytes
-            ∙ sym (program-append (map assemble b) returns),
-      );
-    })
+done-program b I R n f e q = rw f (record { is = (omega (arith, length-append (map assemble b) returns, map-length b), bytes) })
+  where
+    bytes : n + 2 ≤ length (set (set I n 0xffff_ffff_0000_0006) (n + 1) 6)
+        → bytesOf (take (n + 2) (set (set I n 0xffff_ffff_0000_0006) (n + 1) 6)) ≡ programBytes (map assemble b ++ returns)
+    bytes k =
+        let h : n + 2 ≤ length I = omega (arith, length-set (set I n 0xffff_ffff_0000_0006) (n + 1) 6, length-set I n 0xffff_ffff_0000_0006) in
+        let z = q (omega arith) in
+        ap bytesOf (rw z (take-two (packs b) R n 0xffff_ffff_0000_0006 6 (packs-length b ∙ e) (rw z at h)))
+        ∙ bytes-append (packs b) (0xffff_ffff_0000_0006 ∷ 6 ∷ [])
+        ∙ ap₂ _++_ (block-bytes b f) return-bytes
+        ∙ sym (program-append (map assemble b) returns)
 
 pub far-program : (b : Block) (I : List ℕ) → far b ≡ true → Compiles (resolved b >>= λ c. done (map assemble c ++ returns)) I (Refused FarJump)
 far-program b I f = rw f (record { is = refl })

@@ -1,5 +1,5 @@
 -- A walk's parts, and how much each adds.
-use Prim.Native.Nat.{ℕ, _+_, _≤_}
+use Prim.Native.Nat.{ℕ, _+_, _≤_, _<_}
 use mathlib.Core.Path.{_≡_, refl, sym, ap, _∙_, subst}
 use mathlib.Core.List.{List, [], _∷_, _++_}
 use mathlib.Core.Bool.{Bool, true, false, not}
@@ -12,6 +12,7 @@ use Rattle.error.specs.Answer.{Out, refused, done, _>>=_}
 use Rattle.error.proofs.All.{All}
 use Rattle.ast.specs.declared.LinkType.{LinkType}
 use Rattle.ast.specs.Tree.{Expr, And, Or, Not}
+use Rattle.ast.specs.File.{countOf}
 use Rattle.ast.proofs.Proper.{Proper}
 use Rattle.codegen.specs.declared.Facts.{Facts}
 use Rattle.codegen.specs.declared.GuardSet.{GuardSet}
@@ -34,9 +35,13 @@ use Rattle.reader.specs.Reader.{treeOf, endOf, Here}
 use Rattle.reader.proofs.Here.{TwoParts, OnePart}
 use Rattle.compile.specs.Walks.{Walk, rightOf, arms}
 
+-- a join has two parts
+pub many : {join : Expr → Expr → Expr} {s : List ℕ} {i : ℕ} → TwoParts join s i → 2 < countOf s
+many p = omega (arith, p .left .later, p .right .within)
+
 module _ {s M : List ℕ} {i : ℕ} (w : Walk s M i) where
   at : (j : ℕ) → Here s j → Proper (treeOf s j) → Walk s M j
-  at j h p = record { here = h; proper = p; noted = w .noted; long = w .long }
+  at j h p = record { here = h; proper = p; joined = w .joined }
 
   pub and-left : TwoParts And s i → Walk s M (i + 1)
   and-left p = at (i + 1) (p .left) ((subst Proper (p .tree) (w .proper)) .0)

@@ -5,6 +5,7 @@ use emit::Emission;
 use emit::Emitted;
 use emit::Patches;
 use emit::otherwise;
+use emit::put_line;
 use emit::resolve_all;
 use error::Refusal;
 ghost use Prim.Native.Nat.{_+_};
@@ -31,7 +32,7 @@ fn emit_expr(
     p: Patches,
     facts: Facts,
 ) -> Emission
-    requires { ⌜ W.Walk (now tree) (now notes) i × Room (weight (treeOf (now tree) i)) (now insns) (now success) (now failure) p ⌝ }
+    requires { ⌜ W.Walk (now tree) (now notes) i × Room (weight (treeOf (now tree) i)) (now success) (now failure) p ⌝ }
     ensures { λ r. ⌜ Reply (E.emit link (treeOf (now (tree .entry)) i) facts) (now (insns .entry)) (now (success .entry)) (now (failure .entry)) p (now (insns .exit)) (now (success .exit)) (now (failure .exit)) r ⌝ }
 {
     let kind = reader::byte_at(tree, i, 0);
@@ -55,7 +56,7 @@ fn emit_and(
     p: Patches,
     facts: Facts,
 ) -> Emission
-    requires { ⌜ W.Walk (now tree) (now notes) i × TwoParts And (now tree) i × Room (weight (treeOf (now tree) i)) (now insns) (now success) (now failure) p ⌝ }
+    requires { ⌜ W.Walk (now tree) (now notes) i × TwoParts And (now tree) i × Room (weight (treeOf (now tree) i)) (now success) (now failure) p ⌝ }
     ensures { λ r. ⌜ Reply (E.emit link (treeOf (now (tree .entry)) i) facts) (now (insns .entry)) (now (success .entry)) (now (failure .entry)) p (now (insns .exit)) (now (success .exit)) (now (failure .exit)) r ⌝ }
 {
     match emit_expr(tree, notes, link, insns, success, failure, i + 1, p, facts) {
@@ -93,7 +94,7 @@ fn emit_or(
     p: Patches,
     facts: Facts,
 ) -> Emission
-    requires { ⌜ W.Walk (now tree) (now notes) i × TwoParts Or (now tree) i × Room (weight (treeOf (now tree) i)) (now insns) (now success) (now failure) p ⌝ }
+    requires { ⌜ W.Walk (now tree) (now notes) i × TwoParts Or (now tree) i × Room (weight (treeOf (now tree) i)) (now success) (now failure) p ⌝ }
     ensures { λ r. ⌜ Reply (E.emit link (treeOf (now (tree .entry)) i) facts) (now (insns .entry)) (now (success .entry)) (now (failure .entry)) p (now (insns .exit)) (now (success .exit)) (now (failure .exit)) r ⌝ }
 {
     let required = guards::noted_guards(notes, i);
@@ -119,7 +120,7 @@ fn emit_arms(
     p: Patches,
     facts: Facts,
 ) -> Emission
-    requires { ⌜ W.Walk (now tree) (now notes) i × TwoParts Or (now tree) i × Room (weight (treeOf (now tree) (i + 1)) + 1 + weight (treeOf (now tree) (endOf (now tree) (i + 1)))) (now insns) (now success) (now failure) p ⌝ }
+    requires { ⌜ W.Walk (now tree) (now notes) i × TwoParts Or (now tree) i × Room (weight (treeOf (now tree) (i + 1)) + 1 + weight (treeOf (now tree) (endOf (now tree) (i + 1)))) (now success) (now failure) p ⌝ }
     ensures { λ r. ⌜ Reply (W.arms link (treeOf (now (tree .entry)) (i + 1)) (treeOf (now (tree .entry)) (endOf (now (tree .entry)) (i + 1))) facts) (now (insns .entry)) (now (success .entry)) (now (failure .entry)) p (now (insns .exit)) (now (success .exit)) (now (failure .exit)) r ⌝ }
 {
     match emit_expr(tree, notes, link, insns, success, failure, i + 1, p, facts) {
@@ -163,7 +164,7 @@ fn emit_right(
     facts: Facts,
     left_facts: Facts,
 ) -> Emission
-    requires { ⌜ W.Walk (now tree) (now notes) i × Room (weight (treeOf (now tree) i)) (now insns) (now success) (now failure) p ⌝ }
+    requires { ⌜ W.Walk (now tree) (now notes) i × Room (weight (treeOf (now tree) i)) (now success) (now failure) p ⌝ }
     ensures { λ r. ⌜ Reply (W.rightOf link (treeOf (now (tree .entry)) i) «left_facts» facts) (now (insns .entry)) (now (success .entry)) (now (failure .entry)) p (now (insns .exit)) (now (success .exit)) (now (failure .exit)) r ⌝ }
 {
     match emit_expr(tree, notes, link, insns, success, failure, i, p, facts) {
@@ -192,7 +193,7 @@ fn emit_not(
     p: Patches,
     facts: Facts,
 ) -> Emission
-    requires { ⌜ W.Walk (now tree) (now notes) i × OnePart (now tree) i × Room (weight (treeOf (now tree) i)) (now insns) (now success) (now failure) p ⌝ }
+    requires { ⌜ W.Walk (now tree) (now notes) i × OnePart (now tree) i × Room (weight (treeOf (now tree) i)) (now success) (now failure) p ⌝ }
     ensures { λ r. ⌜ Reply (E.emit link (treeOf (now (tree .entry)) i) facts) (now (insns .entry)) (now (success .entry)) (now (failure .entry)) p (now (insns .exit)) (now (success .exit)) (now (failure .exit)) r ⌝ }
 {
     let s = Patches {
@@ -228,6 +229,14 @@ fn emit_not(
 
 // ---- the program
 
+// The lines of the two returns.
+const ACCEPT: u64 = 0xffff_ffff_0000_0006;
+
+const DROP: u64 = 0x0000_0000_0000_0006;
+
+// The length of a file of two records, in which no tree has a join.
+const JOINLESS: usize = 56;
+
 pub enum Compiled {
     Count(usize),
     Refused(Refusal),
@@ -235,7 +244,7 @@ pub enum Compiled {
 
 // The open exits go to the two returns: success to the first, failure to the second.
 fn finish(insns: &mut [u64], success: &mut [u16], failure: &mut [u16], p: Patches) -> Compiled
-    requires { ⌜ W.Ended (now insns) (now success) (now failure) p ⌝ }
+    requires { ⌜ W.Ended (now success) (now failure) p ⌝ }
     ensures { λ r. ⌜ W.Finishes (now (insns .entry)) (now (success .entry)) (now (failure .entry)) p (now (insns .exit)) r ⌝ }
 {
     let accept = p.insns;
@@ -243,8 +252,8 @@ fn finish(insns: &mut [u64], success: &mut [u16], failure: &mut [u16], p: Patche
     let to_drop = p.failure;
     if resolve_all(insns, success, 0, to_accept, accept) {
         if resolve_all(insns, failure, 0, to_drop, accept + 1) {
-            insns[accept] = 0xffff_ffff_0000_0006;
-            insns[accept + 1] = 0x0000_0000_0000_0006;
+            put_line(insns, accept, ACCEPT);
+            put_line(insns, accept + 1, DROP);
             return Compiled::Count(accept + 2);
         }
         return Compiled::Refused(Refusal::FarJump);
@@ -252,7 +261,17 @@ fn finish(insns: &mut [u64], success: &mut [u16], failure: &mut [u16], p: Patche
     Compiled::Refused(Refusal::FarJump)
 }
 
-// The program of the file's tree, its lines in `insns`.
+// The notes that joins read.
+fn note_joins(tree: &[u8], notes: &mut [u64])
+    requires { ⌜ W.Noting (now tree) (now notes) ⌝ }
+    ensures { λ _. ⌜ W.Joined (now (tree .entry)) (now (notes .exit)) ⌝ }
+{
+    if JOINLESS < tree.len() {
+        let _r = guards::required_guards(tree, notes, 0);
+    }
+}
+
+// The program of the file's tree, its lines in `insns` as far as these reach.
 pub fn compile(
     tree: &[u8],
     link: LinkType,
@@ -261,10 +280,10 @@ pub fn compile(
     success: &mut [u16],
     failure: &mut [u16],
 ) -> Compiled
-    requires { ⌜ W.Ready (now tree) (now notes) (now insns) (now success) (now failure) ⌝ }
+    requires { ⌜ W.Ready (now tree) (now notes) (now success) (now failure) ⌝ }
     ensures { λ r. ⌜ W.Compiles (C.compile link (treeOf (now (tree .entry)) 0)) (now (insns .exit)) r ⌝ }
 {
-    let _r = guards::required_guards(tree, notes, 0);
+    note_joins(tree, notes);
     let facts = facts::entry_facts(link);
     let p = Patches {
         insns: 0,

@@ -63,11 +63,11 @@ pub record Tried (B : Block) (n : ℕ) (I Y N : List ℕ) (s : Patches) (I′ Y�
 
 -- every distance is within 255, since the test is short
 pub tried : {B : Block} {I Y N I₁ N₁ I₂ Y₂ N₂ : List ℕ} {s t u : Patches} {mark : ℕ} {r : Bool} (n : ℕ) → length B ≤ n → n ≤ 17
-    → PutFailure B I N s I₁ N₁ t → Otherwise mark I₁ Y N₁ t I₂ Y₂ N₂ u r → s .failure ≡ mark → s .insns ≤ length I → s .failure ≤ length N
+    → PutFailure B I N s I₁ N₁ t → Otherwise mark I₁ Y N₁ t I₂ Y₂ N₂ u r → s .failure ≡ mark → s .failure ≤ length N
     → Tried B n I Y N s I₂ Y₂ N₂ u
-tried {B} {I} {Y} {N} {s = s} n k l p o m i f =
+tried {B} {I} {Y} {N} {s = s} n k l p o m f =
     let g = p .grew Y in
-    let z = o .ended B I Y N s g m i f .grew (near-short B (g .near) (omega arith)) in
+    let z = o .ended B I Y N s g m f .grew (near-short B (g .near) (omega arith)) in
     record { grew = z; size = sized (n + 1) (otherwise-size n B k) z }
 
 -- ---- the ethertype

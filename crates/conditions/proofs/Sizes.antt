@@ -7,19 +7,21 @@ use lib.ListN.{length, length-append}
 use lib.Dec.{eqb}
 use Rattle.error.specs.Answer.{Out}
 use Rattle.error.proofs.All.{All, either}
+use Rattle.ast.specs.declared.Dir.{Dir}
+use Rattle.ast.specs.declared.Dir.the-variants.{SrcOrDst, Src, Dst, SrcAndDst}
 use Rattle.ast.specs.declared.LinkType.{LinkType}
 use Rattle.ast.specs.declared.LinkType.the-variants.{Ethernet, RawIp, LinuxSll}
 use Rattle.codegen.specs.declared.Facts.{Facts}
 use Rattle.codegen.specs.Facts.{holds}
-use Rattle.codegen.specs.Emit.{Code, need, emitEthertype}
+use Rattle.codegen.specs.Emit.{Code, emitEthertype}
 use Rattle.emit.specs.declared.Patches.{Patches}
 use Rattle.emit.specs.declared.Emitted.{Emitted}
-use Rattle.emit.specs.Grown.{Put, PutFailure}
+use Rattle.emit.specs.Grown.{Grew, Put}
 use Rattle.emit.proofs.Grow.{Sized, sized}
 use Rattle.emit.proofs.Outcome.{Went}
 use Rattle.conditions.specs.declared.Mask.{Mask}
 use Rattle.conditions.specs.declared.Mask.the-variants.{Whole, Under}
-use Rattle.conditions.specs.Loads.{load}
+use Rattle.conditions.specs.Loads.{load, firstTest}
 
 -- an answer's block has at most n lines
 abbrev pub Lines : ℕ → Code → Type 0
@@ -47,5 +49,11 @@ load-lines c at (Under n) = omega arith
 pub load-size : (c at : ℕ) (m : Mask) {I I′ : List ℕ} {s t : Patches} → Put (load c at m) I s I′ t → Sized 2 s t
 load-size c at m p = sized 2 (load-lines c at m) (p .grew [] [])
 
-pub check-size : (c at : ℕ) (m : Mask) (k : ℕ) {I N I′ N′ : List ℕ} {s t : Patches} → PutFailure (load c at m ++ (need k ∷ [])) I N s I′ N′ t → Sized 3 s t
-check-size c at m k p = sized 3 (rw length-append (omega (arith, load-lines c at m))) (p .grew [])
+first-lines : (d : Dir) (k c at : ℕ) (m : Mask) → length (firstTest d k (load c at m)) ≤ 3
+first-lines SrcOrDst k c at m = rw length-append (omega (arith, load-lines c at m))
+first-lines Src k c at m = omega arith
+first-lines Dst k c at m = omega arith
+first-lines SrcAndDst k c at m = rw length-append (omega (arith, load-lines c at m))
+
+pub first-size : (d : Dir) (k c at : ℕ) (m : Mask) {I Y N I′ Y′ N′ : List ℕ} {s t : Patches} → Grew (firstTest d k (load c at m)) I Y N s I′ Y′ N′ t → Sized 3 s t
+first-size d k c at m g = sized 3 (first-lines d k c at m) g

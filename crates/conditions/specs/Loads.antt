@@ -5,12 +5,14 @@ use mathlib.Core.List.{List, [], _∷_, _++_}
 use mathlib.Core.Option.{Option, none, some}
 use Rattle.error.specs.Answer.{Out}
 use Rattle.ast.specs.declared.LinkType.{LinkType}
+use Rattle.ast.specs.declared.Dir.{Dir}
+use Rattle.ast.specs.declared.Dir.the-variants.{SrcOrDst, Src, Dst, SrcAndDst}
 use Rattle.codegen.specs.declared.L4Set.{L4Set}
 use Rattle.codegen.specs.declared.Known.{Known}
 use Rattle.codegen.specs.declared.Facts.{Facts}
 use Rattle.codegen.specs.Facts.{learnIp4, learnIp6}
-use Rattle.codegen.specs.Block.{half, word, andK, op, Block, opInsn}
-use Rattle.codegen.specs.Emit.{netOffset, Code, check, checkRange, ethertypeAt, header4, header6, l4Check, emitL4}
+use Rattle.codegen.specs.Block.{half, word, andK, success, leave, jt, jeq, op, test, Block, opInsn}
+use Rattle.codegen.specs.Emit.{netOffset, Code, need, check, checkRange, ethertypeAt, header4, header6, l4Check, emitL4}
 use Rattle.conditions.specs.declared.Mask.{Mask}
 use Rattle.conditions.specs.declared.Mask.the-variants.{Whole, Under}
 use Rattle.conditions.specs.declared.Version.{Version}
@@ -29,6 +31,19 @@ use Rattle.emit.specs.Grown.{ReplyFailure}
 abbrev pub load : ℕ → ℕ → Mask → Block
 load c at Whole = op (opOf c at) ∷ []
 load c at (Under m) = op (opOf c at) ∷ op (andK m) ∷ []
+
+-- what is tested before the last load, by direction, and where that is: `checkLoads` in two parts
+abbrev pub firstTest : Dir → ℕ → Block → Block
+firstTest SrcOrDst k s = s ++ (test jeq k jt (leave success) ∷ [])
+firstTest Src k s = []
+firstTest Dst k s = []
+firstTest SrcAndDst k s = s ++ (need k ∷ [])
+
+abbrev pub lastPlace : Dir → ℕ → ℕ → ℕ
+lastPlace SrcOrDst src dst = dst
+lastPlace Src src dst = src
+lastPlace Dst src dst = dst
+lastPlace SrcAndDst src dst = dst
 
 -- a code of a load at a place
 pub record Absolute (c at : ℕ) : Type 0 where

@@ -130,7 +130,7 @@ fn emit_ethertype_at(
     off: u32,
     et: u32,
 ) -> Emitted
-    requires { ⌜ Space 2 (now insns) (now failure) p (p .failure) ⌝ }
+    requires { ⌜ Space 2 (now failure) p (p .failure) ⌝ }
     ensures { λ r. ⌜ L.EthertypeAt off et facts (now (insns .entry)) (now (failure .entry)) p (now (insns .exit)) (now (failure .exit)) r ⌝ }
 {
     let known = facts.ethertype;
@@ -156,7 +156,7 @@ pub fn emit_ethertype(
     facts: Facts,
     et: u32,
 ) -> Emission
-    requires { ⌜ Space 2 (now insns) (now failure) p (p .failure) ⌝ }
+    requires { ⌜ Space 2 (now failure) p (p .failure) ⌝ }
     ensures { λ r. ⌜ ReplyFailure (E.emitEthertype link et facts) (now (insns .entry)) (now (failure .entry)) p (now (insns .exit)) (now (failure .exit)) r ⌝ }
 {
     let offset = ether_proto_offset(link);
@@ -184,7 +184,7 @@ pub fn emit_l4(
     version: Version,
     n: u32,
 ) -> Emission
-    requires { ⌜ Space 4 (now insns) (now failure) p (p .failure) ⌝ }
+    requires { ⌜ Space 4 (now failure) p (p .failure) ⌝ }
     ensures { λ r. ⌜ ReplyFailure (L.emitVersion link version n facts) (now (insns .entry)) (now (failure .entry)) p (now (insns .exit)) (now (failure .exit)) r ⌝ }
 {
     let et = ether_of(version);
@@ -211,7 +211,7 @@ pub fn emit_l4(
 // ---- one load, by direction
 
 fn push_load(insns: &mut [u64], p: Patches, code: u16, off: u32, mask: Mask) -> Patches
-    requires { ⌜ Place 2 (now insns) p × L.Absolute code off ⌝ }
+    requires { ⌜ Place 2 p × L.Absolute code off ⌝ }
     ensures { λ r. ⌜ Put (L.load code off mask) (now (insns .entry)) p (now (insns .exit)) r ⌝ }
 {
     let q = push(insns, p, code, off);
@@ -230,14 +230,52 @@ fn check_load(
     mask: Mask,
     k: u32,
 ) -> Patches
-    requires { ⌜ Space 3 (now insns) (now failure) p (p .failure) × L.Absolute code off ⌝ }
+    requires { ⌜ Space 3 (now failure) p (p .failure) × L.Absolute code off ⌝ }
     ensures { λ r. ⌜ PutFailure (L.load code off mask ++ (E.need k ∷ [])) (now (insns .entry)) (now (failure .entry)) p (now (insns .exit)) (now (failure .exit)) r ⌝ }
 {
     let q = push_load(insns, p, code, off, mask);
     need(insns, failure, q, k)
 }
 
-// `check_addr4`: two loads, each compared with k, by direction. With either, the source test's jt is a success.
+// The source's test before the destination's. With either, its jt is a success.
+fn check_first(
+    insns: &mut [u64],
+    success: &mut [u16],
+    failure: &mut [u16],
+    p: Patches,
+    dir: Dir,
+    code: u16,
+    src: u32,
+    mask: Mask,
+    k: u32,
+) -> Patches
+    requires { ⌜ Room 3 (now success) (now failure) p × L.Absolute code src ⌝ }
+    ensures { λ r. ⌜ Grew (L.firstTest dir k (L.load code src mask)) (now (insns .entry)) (now (success .entry)) (now (failure .entry)) p (now (insns .exit)) (now (success .exit)) (now (failure .exit)) r ⌝ }
+{
+    match dir {
+        Dir::Src => p,
+        Dir::Dst => p,
+        Dir::SrcAndDst => check_load(insns, failure, p, code, src, mask, k),
+        Dir::SrcOrDst => {
+            let q = push_load(insns, p, code, src, mask);
+            test_success(insns, success, q, k)
+        }
+    }
+}
+
+// The place of the last load.
+fn last_place(dir: Dir, src: u32, dst: u32) -> u32
+    ensures { λ r. ⌜ r ≡ L.lastPlace dir src dst ⌝ }
+{
+    match dir {
+        Dir::Src => src,
+        Dir::Dst => dst,
+        Dir::SrcAndDst => dst,
+        Dir::SrcOrDst => dst,
+    }
+}
+
+// `check_addr4`: two loads, each compared with k, by direction.
 pub fn check_addr4(
     insns: &mut [u64],
     success: &mut [u16],
@@ -250,22 +288,12 @@ pub fn check_addr4(
     mask: Mask,
     k: u32,
 ) -> Patches
-    requires { ⌜ Room 6 (now insns) (now success) (now failure) p × L.Absolute code src × L.Absolute code dst ⌝ }
+    requires { ⌜ Room 6 (now success) (now failure) p × L.Absolute code src × L.Absolute code dst ⌝ }
     ensures { λ r. ⌜ Grew (E.checkLoads dir k (L.load code src mask) (L.load code dst mask)) (now (insns .entry)) (now (success .entry)) (now (failure .entry)) p (now (insns .exit)) (now (success .exit)) (now (failure .exit)) r ⌝ }
 {
-    match dir {
-        Dir::Src => check_load(insns, failure, p, code, src, mask, k),
-        Dir::Dst => check_load(insns, failure, p, code, dst, mask, k),
-        Dir::SrcAndDst => {
-            let q = check_load(insns, failure, p, code, src, mask, k);
-            check_load(insns, failure, q, code, dst, mask, k)
-        }
-        Dir::SrcOrDst => {
-            let q = push_load(insns, p, code, src, mask);
-            let t = test_success(insns, success, q, k);
-            check_load(insns, failure, t, code, dst, mask, k)
-        }
-    }
+    let q = check_first(insns, success, failure, p, dir, code, src, mask, k);
+    let last = last_place(dir, src, dst);
+    check_load(insns, failure, q, code, last, mask, k)
 }
 
 // ---- several loads, by direction
@@ -279,7 +307,7 @@ fn check_last(
     expected: u32,
     off: u32,
 ) -> Patches
-    requires { ⌜ Space 3 (now insns) (now failure) p (p .failure) ⌝ }
+    requires { ⌜ Space 3 (now failure) p (p .failure) ⌝ }
     ensures { λ r. ⌜ PutFailure (N.lastTest mask expected off) (now (insns .entry)) (now (failure .entry)) p (now (insns .exit)) (now (failure .exit)) r ⌝ }
 {
     if mask == 0 {
@@ -292,7 +320,7 @@ fn check_last(
 
 // `check_net6`: the segments of an address as far as the masks reach. All of them where each is full: `check_ip6_addr`.
 fn check_net6(insns: &mut [u64], failure: &mut [u16], p: Patches, net: Net6, off: u32) -> Patches
-    requires { ⌜ Space 17 (now insns) (now failure) p (p .failure) × (off < 65536) ⌝ }
+    requires { ⌜ Space 17 (now failure) p (p .failure) × (off < 65536) ⌝ }
     ensures { λ r. ⌜ PutFailure (N.tests (net .masks) (net .expected) off) (now (insns .entry)) (now (failure .entry)) p (now (insns .exit)) (now (failure .exit)) r ⌝ }
 {
     let mut t = p;
@@ -321,7 +349,7 @@ fn check_net6_sides(
     src: u32,
     dst: u32,
 ) -> Patches
-    requires { ⌜ Room 35 (now insns) (now success) (now failure) p × (src < 65536) × (dst < 65536) ⌝ }
+    requires { ⌜ Room 35 (now success) (now failure) p × (src < 65536) × (dst < 65536) ⌝ }
     ensures { λ r. ⌜ Grew (E.checkBlocks dir (N.tests (net .masks) (net .expected) src) (N.tests (net .masks) (net .expected) dst)) (now (insns .entry)) (now (success .entry)) (now (failure .entry)) p (now (insns .exit)) (now (success .exit)) (now (failure .exit)) r ⌝ }
 {
     match dir {
@@ -350,7 +378,7 @@ fn check_range(
     hi: u32,
     off: u32,
 ) -> Patches
-    requires { ⌜ Space 3 (now insns) (now failure) p (p .failure) ⌝ }
+    requires { ⌜ Space 3 (now failure) p (p .failure) ⌝ }
     ensures { λ r. ⌜ PutFailure (E.checkRange lo hi off) (now (insns .entry)) (now (failure .entry)) p (now (insns .exit)) (now (failure .exit)) r ⌝ }
 {
     let q = push(insns, p, 0x48, off);
@@ -367,7 +395,7 @@ pub fn check_mac(
     two: u32,
     off: u32,
 ) -> Patches
-    requires { ⌜ Space 4 (now insns) (now failure) p (p .failure) × (off < 65536) ⌝ }
+    requires { ⌜ Space 4 (now failure) p (p .failure) × (off < 65536) ⌝ }
     ensures { λ r. ⌜ PutFailure (E.check word off four ++ E.check half (off + 4) two) (now (insns .entry)) (now (failure .entry)) p (now (insns .exit)) (now (failure .exit)) r ⌝ }
 {
     let q = check_word(insns, failure, p, off, four);
@@ -381,7 +409,7 @@ fn check_shape(
     shape: Shape,
     off: u32,
 ) -> Patches
-    requires { ⌜ Space (L.most shape) (now insns) (now failure) p (p .failure) × (off < 65536) ⌝ }
+    requires { ⌜ Space (L.most shape) (now failure) p (p .failure) × (off < 65536) ⌝ }
     ensures { λ r. ⌜ PutFailure (L.tested shape off) (now (insns .entry)) (now (failure .entry)) p (now (insns .exit)) (now (failure .exit)) r ⌝ }
 {
     match shape {
@@ -401,7 +429,7 @@ pub fn check_sides(
     src: u32,
     dst: u32,
 ) -> Patches
-    requires { ⌜ Room (L.most shape + 1 + L.most shape) (now insns) (now success) (now failure) p × (src < 65536) × (dst < 65536) ⌝ }
+    requires { ⌜ Room (L.most shape + 1 + L.most shape) (now success) (now failure) p × (src < 65536) × (dst < 65536) ⌝ }
     ensures { λ r. ⌜ Grew (E.checkBlocks dir (L.tested shape src) (L.tested shape dst)) (now (insns .entry)) (now (success .entry)) (now (failure .entry)) p (now (insns .exit)) (now (success .exit)) (now (failure .exit)) r ⌝ }
 {
     match dir {
@@ -435,7 +463,7 @@ pub fn emit_net(
     mask: Mask,
     k: u32,
 ) -> Emission
-    requires { ⌜ Room 8 (now insns) (now success) (now failure) p ⌝ }
+    requires { ⌜ Room 8 (now success) (now failure) p ⌝ }
     ensures { λ r. ⌜ Reply (E.guarded link 0x0800 (E.checkLoads dir k (L.load 0x20 (E.netOffset link + 12) mask) (L.load 0x20 (E.netOffset link + 16) mask)) facts) (now (insns .entry)) (now (success .entry)) (now (failure .entry)) p (now (insns .exit)) (now (success .exit)) (now (failure .exit)) r ⌝ }
 {
     match emit_ethertype(link, insns, failure, p, facts, 0x0800) {
@@ -476,7 +504,7 @@ pub fn emit_net6(
     prefix: u8,
     segments: [u16; 8],
 ) -> Emission
-    requires { ⌜ Room 37 (now insns) (now success) (now failure) p ⌝ }
+    requires { ⌜ Room 37 (now success) (now failure) p ⌝ }
     ensures { λ r. ⌜ Reply (E.guarded link 0x86dd (E.checkBlocks dir (E.checkNet6 prefix (E.netOffset link + 8) segments) (E.checkNet6 prefix (E.netOffset link + 24) segments)) facts) (now (insns .entry)) (now (success .entry)) (now (failure .entry)) p (now (insns .exit)) (now (success .exit)) (now (failure .exit)) r ⌝ }
 {
     match emit_ethertype(link, insns, failure, p, facts, 0x86dd) {
@@ -502,7 +530,7 @@ pub fn emit_ip_broadcast(
     p: Patches,
     facts: Facts,
 ) -> Emission
-    requires { ⌜ Space 4 (now insns) (now failure) p (p .failure) ⌝ }
+    requires { ⌜ Space 4 (now failure) p (p .failure) ⌝ }
     ensures { λ r. ⌜ ReplyFailure (E.emitPrimitive link IpBroadcast facts) (now (insns .entry)) (now (failure .entry)) p (now (insns .exit)) (now (failure .exit)) r ⌝ }
 {
     match emit_ethertype(link, insns, failure, p, facts, 0x0800) {
@@ -526,7 +554,7 @@ pub fn emit_ip_multicast(
     p: Patches,
     facts: Facts,
 ) -> Emission
-    requires { ⌜ Space 5 (now insns) (now failure) p (p .failure) ⌝ }
+    requires { ⌜ Space 5 (now failure) p (p .failure) ⌝ }
     ensures { λ r. ⌜ ReplyFailure (E.emitPrimitive link IpMulticast facts) (now (insns .entry)) (now (failure .entry)) p (now (insns .exit)) (now (failure .exit)) r ⌝ }
 {
     match emit_ethertype(link, insns, failure, p, facts, 0x0800) {
@@ -558,7 +586,7 @@ pub fn emit_ip6_multicast(
     p: Patches,
     facts: Facts,
 ) -> Emission
-    requires { ⌜ Space 4 (now insns) (now failure) p (p .failure) ⌝ }
+    requires { ⌜ Space 4 (now failure) p (p .failure) ⌝ }
     ensures { λ r. ⌜ ReplyFailure (E.emitPrimitive link Ip6Multicast facts) (now (insns .entry)) (now (failure .entry)) p (now (insns .exit)) (now (failure .exit)) r ⌝ }
 {
     match emit_ethertype(link, insns, failure, p, facts, 0x86dd) {

@@ -6,7 +6,7 @@ use Prim.Native.Nat.{ℕ, suc, _+_, _<_, _≤_}
 use native.Mathlib.Omega.{arith}
 use native.Mathlib.Nat.{add-zero}
 use native.Mathlib.Numerals.{add-one}
-use lib.ListN.{length, take, set, length-append}
+use lib.ListN.{length, take, set, length-append, length-set, length-take}
 use lib.Seq.{take-suc-set}
 use Rattle.codegen.specs.Block.{Side, success, failure, Exit, skip, leave, Line, Block, same, far, farLine, setsX, writesX}
 use Rattle.emit.specs.declared.Patches.{Patches}
@@ -102,11 +102,14 @@ far-append (l ∷ A) B = ap (λ (b : Bool). farLine l || b) (far-append A B) ∙
 
 -- ---- one line
 
-module _ (I Y N : List ℕ) (s : Patches) (l : Line) (w x : ℕ) (h : s .insns < length I) (p : w ≡ packed l) (q : x ≡ s .«x_writes» + writes (l ∷ []))
+module _ (I Y N : List ℕ) (s : Patches) (l : Line) (w x : ℕ) (p : w ≡ packed l) (q : x ≡ s .«x_writes» + writes (l ∷ []))
     (f : farLine l ≡ false) where
   near : far (l ∷ []) ≡ false
   unfolding far
   near = rw f
+
+  inside : s .insns + 1 ≤ length (set I (s .insns) w) → s .insns < length I
+  inside h = omega (arith, length-set I (s .insns) w)
 
   -- with nothing pending
   pub one : places success (s .insns) (l ∷ []) ≡ [] → places failure (s .insns) (l ∷ []) ≡ []
@@ -117,7 +120,7 @@ module _ (I Y N : List ℕ) (s : Patches) (l : Line) (w x : ℕ) (h : s .insns <
     failures = rw n (plus-none _);
     writings = q;
     near = near;
-    lines = put-one I h p;
+    lines = λ h. put-one I (inside h) p;
     won = rw y (put-none Y (s .success));
     lost = rw n (put-none N (s .failure));
   }
@@ -131,7 +134,7 @@ module _ (I Y N : List ℕ) (s : Patches) (l : Line) (w x : ℕ) (h : s .insns <
     failures = rw n refl;
     writings = q;
     near = near;
-    lines = put-one I h p;
+    lines = λ h. put-one I (inside h) p;
     won = rw y (put-none Y (s .success));
     lost = rw n (put-one N g refl);
   }
@@ -145,7 +148,7 @@ module _ (I Y N : List ℕ) (s : Patches) (l : Line) (w x : ℕ) (h : s .insns <
     failures = rw n (plus-none _);
     writings = q;
     near = near;
-    lines = put-one I h p;
+    lines = λ h. put-one I (inside h) p;
     won = rw y (put-one Y g refl);
     lost = rw n (put-none N (s .failure));
   }
@@ -160,10 +163,15 @@ none I Y N s = record {
   failures = plus-none _;
   writings = plus-none _;
   near = refl;
-  lines = put-none I (s .insns);
+  lines = λ h. put-none I (s .insns);
   won = put-none Y (s .success);
   lost = put-none N (s .failure);
 }
+
+-- lines that reach to a block's end reached to its start
+pub reached : {B : Block} {I Y N I′ Y′ N′ : List ℕ} {s t : Patches} → Grew B I Y N s I′ Y′ N′ t → t .insns ≤ length I′ → s .insns ≤ length I
+reached {B} {I} {I′ = I′} {s = s} {t} g h =
+    omega (arith, ap length (g .lines h), length-append (take (s .insns) I) (packs B), length-take (s .insns) I, length-take (t .insns) I′, packs-length B, g .insns)
 
 pub then : {A B : Block} {I Y N I₁ Y₁ N₁ I₂ Y₂ N₂ : List ℕ} {s s₁ s₂ : Patches}
     → Grew A I Y N s I₁ Y₁ N₁ s₁ → Grew B I₁ Y₁ N₁ s₁ I₂ Y₂ N₂ s₂ → Grew (A ++ B) I Y N s I₂ Y₂ N₂ s₂
@@ -173,7 +181,7 @@ then {A} {B} g h = record {
   failures = rw (places-append, length-append, ← g .insns) (omega arith);
   writings = rw writes-append (omega arith);
   near = rw (far-append A B, g .near) (h .near);
-  lines = rw (h .lines, g .lines, packs-append, append-assoc);
+  lines = λ k. rw (h .lines k, g .lines (reached h k), packs-append, append-assoc);
   won = rw (h .won, g .won, places-append, append-assoc, ← g .insns);
   lost = rw (h .lost, g .lost, places-append, append-assoc, ← g .insns);
 }
@@ -188,7 +196,7 @@ regrew {I′ = I′} {Y′} {N′} u a b c d g = record {
   failures = c ∙ g .failures;
   writings = d ∙ g .writings;
   near = g .near;
-  lines = ap (λ (n : ℕ). take n I′) a ∙ g .lines;
+  lines = λ h. ap (λ (n : ℕ). take n I′) a ∙ g .lines (omega (arith, a));
   won = ap (λ (n : ℕ). take n Y′) b ∙ g .won;
   lost = ap (λ (n : ℕ). take n N′) c ∙ g .lost;
 }

@@ -6,7 +6,7 @@ use Prim.Native.Nat.{ℕ, suc, _+_, _-_, _<_, _≤_}
 use native.Mathlib.Omega.{arith}
 use borrow.Author.Tests.{ltb-true, ltb-false, le-ltb}
 use lib.Dec.{ltb}
-use lib.ListN.{length, take, drop, length-append, take-append-drop}
+use lib.ListN.{length, take, drop, getD, set, replicate, length-append, length-set, length-replicate, take-append-drop}
 use lib.Seq.{slice, getD-at, set-at, take-at, drop-at, take-take, length-take-le}
 use Rattle.codegen.specs.Block.{Side, success, failure, Exit, skip, leave, Line, op, test, ja, Block, same, swap, swapLine, settle, turn, otherwise, distance, far, farLine, setsX}
 use Rattle.codegen.proofs.Semantics.{length-settle}
@@ -14,7 +14,7 @@ use Rattle.codegen.proofs.Near.{length-turn}
 use Rattle.emit.specs.declared.Patches.{Patches}
 use Rattle.emit.specs.Lines.{packed, packs, withDistance, exitOf, pending, places, writes, Patched, patched, tooFar, resolve, Below}
 use Rattle.emit.specs.Grown.{Grew, PutSuccess, Resolves, Ended}
-use Rattle.emit.proofs.Grow.{packs-length, far-append, then}
+use Rattle.emit.proofs.Grow.{packs-length, far-append, reached, then}
 use Rattle.emit.proofs.Slots.{put-test, put-ja}
 use Rattle.emit.proofs.Resolving.{near-cons, far-cons}
 
@@ -159,6 +159,59 @@ law e pre rest (l ∷ B) p T d f e₁ e₂ =
     (λ w. law e (pre ++ (w ∷ [])) rest B (p + 1) T d (c .1) (length-append pre (w ∷ []) ∙ ap (λ (n : ℕ). n + 1) e₁) (omega arith))
     l (c .0)
 
+-- ---- whether it is too far, whatever the lines
+
+abbrev pub judged : Patched → Bool
+judged (patched J) = false
+judged tooFar = true
+
+judged-cond : (b : Bool) (P Q : Patched) → judged P ≡ judged Q → judged (cond b tooFar P) ≡ judged (cond b tooFar Q)
+judged-cond true P Q h = refl
+judged-cond false P Q h = h
+
+judged-any : (ps : List ℕ) (T : ℕ) (I K : List ℕ) → judged (resolve ps T I) ≡ judged (resolve ps T K)
+unfolding resolve
+judged-any [] T I K = refl
+judged-any (p ∷ ps) T I K = judged-cond (ltb 255 (T - p - 1)) _ _ (judged-any ps T _ _)
+
+image-judged : (b : Bool) (J : List ℕ) → judged (cond b tooFar (patched J)) ≡ b
+image-judged true J = refl
+image-judged false J = refl
+
+pub far-law : (e : Side) (B : Block) (p T d : ℕ) (I : List ℕ) → far B ≡ false → T ≡ p + length B + d → judged (resolve (places e p B) T I) ≡ far (settle e d B)
+far-law e B p T d I f q =
+    judged-any (places e p B) T I (replicate p 0 ++ (packs B ++ []))
+    ∙ ap judged (law e (replicate p 0) [] B p T d f (length-replicate p 0) q)
+    ∙ image-judged (far (settle e d B)) _
+
+pub resolves-near : (P : Patched) (I : List ℕ) (r : Bool) → Resolves P I r → r ≡ not (judged P)
+resolves-near (patched J) I r q = q .0
+resolves-near tooFar I r q = q
+
+-- resolved lines are as many as before
+abbrev Long : Patched → ℕ → Type 0
+Long (patched J) n = length J ≡ n
+Long tooFar n = Unit {0}
+
+long-cond : (b : Bool) (P : Patched) (n : ℕ) → Long P n → Long (cond b tooFar P) n
+long-cond true P n h = tt
+long-cond false P n h = h
+
+resolve-long : (ps : List ℕ) (T : ℕ) (I : List ℕ) → Long (resolve ps T I) (length I)
+unfolding resolve
+resolve-long [] T I = refl
+resolve-long (p ∷ ps) T I =
+    let J = set I p (withDistance (getD I p 0) (T - p - 1)) in
+    long-cond (ltb 255 (T - p - 1)) (resolve ps T J) (length I)
+    (subst (Long (resolve ps T J)) (length-set I p (withDistance (getD I p 0) (T - p - 1))) (resolve-long ps T J))
+
+long-of : (P : Patched) (I : List ℕ) (r : Bool) (n : ℕ) → r ≡ true → Long P n → Resolves P I r → length I ≡ n
+long-of (patched J) I r n e h q = ap length (q .1) ∙ h
+long-of tooFar I r n e h q = absurd (true≢false (sym e ∙ q))
+
+pub resolves-long : (ps : List ℕ) (T : ℕ) (I I₁ : List ℕ) (r : Bool) → r ≡ true → Resolves (resolve ps T I) I₁ r → length I₁ ≡ length I
+resolves-long ps T I I₁ r e q = long-of (resolve ps T I) I₁ r (length I) e (resolve-long ps T I) q
+
 -- ---- the places of a block are before its end
 
 below-exit : (e : Side) (p T : ℕ) (q : Exit) (x : List ℕ) → p < T → Below T x → Below T (pending e p q x)
@@ -190,53 +243,58 @@ module _ {B : Block} {I Y N I₁ Y₁ N₁ : List ℕ} {s t : Patches} (g : Grew
   pub failure-below : s .failure ≤ length N → Below (t .insns) (slice (s .failure) (t .failure) N₁)
   failure-below h = rw (failure-segment h) (below-places failure (s .insns) (t .insns) B (omega (arith, g .insns)))
 
-  pub whole : I₁ ≡ take (s .insns) I ++ (packs B ++ drop (t .insns) I₁)
-  whole =
-      sym (take-append-drop (t .insns) I₁)
-      ∙ ap (λ (x : List ℕ). x ++ drop (t .insns) I₁) (g .lines)
-      ∙ append-assoc (take (s .insns) I) (packs B) (drop (t .insns) I₁)
+  -- where the lines reach to its end
+  module _ (h : t .insns ≤ length I₁) where
+    pub whole : I₁ ≡ take (s .insns) I ++ (packs B ++ drop (t .insns) I₁)
+    whole =
+        sym (take-append-drop (t .insns) I₁)
+        ∙ ap (λ (x : List ℕ). x ++ drop (t .insns) I₁) (g .lines h)
+        ∙ append-assoc (take (s .insns) I) (packs B) (drop (t .insns) I₁)
 
-  resolved : (e : Side) → s .insns ≤ length I
-      → resolve (places e (s .insns) B) (t .insns) I₁ ≡ image (take (s .insns) I) (drop (t .insns) I₁) (settle e 0 B)
-  resolved e h =
-      ap (resolve (places e (s .insns) B) (t .insns)) whole
-      ∙ law e (take (s .insns) I) (drop (t .insns) I₁) B (s .insns) (t .insns) 0 (g .near) (length-take-le (s .insns) I h) (omega (arith, g .insns))
+    before : length (take (s .insns) I) ≡ s .insns
+    before = length-take-le (s .insns) I (reached g h)
+
+    resolved : (e : Side) → resolve (places e (s .insns) B) (t .insns) I₁ ≡ image (take (s .insns) I) (drop (t .insns) I₁) (settle e 0 B)
+    resolved e =
+        ap (resolve (places e (s .insns) B) (t .insns)) whole
+        ∙ law e (take (s .insns) I) (drop (t .insns) I₁) B (s .insns) (t .insns) 0 (g .near) before (omega (arith, g .insns))
 
 -- a stack cut back to what it was before the block
 cut : (S S₁ x : List ℕ) (m n : ℕ) → m ≤ length S → m ≤ n → take n S₁ ≡ take m S ++ x → take m S₁ ≡ take m S ++ []
 cut S S₁ x m n h k e = sym (take-take m n S₁ k) ∙ ap (take m) e ∙ take-at (take m S) x m (length-take-le m S h) ∙ sym (append-nil (take m S))
 
-pub resolves-near : (b : Bool) (J I : List ℕ) (r : Bool) → Resolves (cond b tooFar (patched J)) I r → r ≡ not b
-resolves-near true J I r q = q
-resolves-near false J I r q = q .0
-
 pub resolves-lines : (b : Bool) (J I : List ℕ) (r : Bool) → b ≡ false → Resolves (cond b tooFar (patched J)) I r → I ≡ J
 resolves-lines true J I r e q = absurd (true≢false e)
 resolves-lines false J I r e q = q .1
 
-module _ {B : Block} {I Y N I₁ Y₁ N₁ : List ℕ} {s t : Patches} (g : Grew B I Y N s I₁ Y₁ N₁ t) (h : s .insns ≤ length I) where
-  lines-of : (e : Side) (I₂ : List ℕ) → I₂ ≡ take (s .insns) I ++ (packs (settle e 0 B) ++ drop (t .insns) I₁)
-      → take (t .insns) I₂ ≡ take (s .insns) I ++ packs (settle e 0 B)
-  lines-of e I₂ q =
-      let n : length (take (s .insns) I ++ packs (settle e 0 B)) ≡ t .insns =
-      simp (length-append, packs-length, length-take-le (s .insns) I h, length-settle) (sym (g .insns)) in
-      ap (take (t .insns)) (q ∙ sym (append-assoc (take (s .insns) I) (packs (settle e 0 B)) (drop (t .insns) I₁)))
-      ∙ take-at (take (s .insns) I ++ packs (settle e 0 B)) (drop (t .insns) I₁) (t .insns) n
+module _ {B : Block} {I Y N I₁ Y₁ N₁ : List ℕ} {s t : Patches} (g : Grew B I Y N s I₁ Y₁ N₁ t) (e : Side) (I₂ : List ℕ) (r : Bool)
+    (q : Resolves (resolve (places e (s .insns) B) (t .insns) I₁) I₂ r) where
+  judges : r ≡ not (far (settle e 0 B))
+  judges = resolves-near (resolve (places e (s .insns) B) (t .insns) I₁) I₂ r q ∙ ap not (far-law e B (s .insns) (t .insns) 0 I₁ (g .near) (omega (arith, g .insns)))
 
+  lines-of : far (settle e 0 B) ≡ false → t .insns ≤ length I₂ → take (t .insns) I₂ ≡ take (s .insns) I ++ packs (settle e 0 B)
+  lines-of f k =
+      let C = settle e 0 B in
+      let h : t .insns ≤ length I₁ = omega (arith, resolves-long (places e (s .insns) B) (t .insns) I₁ I₂ r (judges ∙ ap not f) q) in
+      let z = resolves-lines (far C) _ I₂ r f (subst (λ x. Resolves x I₂ r) (resolved g h e) q) in
+      let n : length (take (s .insns) I ++ packs C) ≡ t .insns = simp (length-append, packs-length, before g h, length-settle) (sym (g .insns)) in
+      ap (take (t .insns)) (z ∙ sym (append-assoc (take (s .insns) I) (packs C) (drop (t .insns) I₁)))
+      ∙ take-at (take (s .insns) I ++ packs C) (drop (t .insns) I₁) (t .insns) n
+
+module _ {B : Block} {I Y N I₁ Y₁ N₁ : List ℕ} {s t : Patches} (g : Grew B I Y N s I₁ Y₁ N₁ t) where
   pub settled-success : s .success ≤ length Y → (I₂ : List ℕ) (r : Bool) → Resolves (resolve (slice (s .success) (t .success) Y₁) (t .insns) I₁) I₂ r
       → Ended (settle success 0 B) I Y N s I₂ Y₁ N₁ (record { insns = t .insns; success = s .success; failure = t .failure; «x_writes» = t .«x_writes» }) r
   settled-success y I₂ r q =
-      let C = settle success 0 B in
-      let z = subst (λ x. Resolves x I₂ r) (ap (λ (x : List ℕ). resolve x (t .insns) I₁) (success-segment g y) ∙ resolved g success h) q in
+      let z = rw (success-segment g y) at q in
       record {
-        near = resolves-near (far C) _ I₂ r z;
+        near = judges g success I₂ r z;
         grew = λ f. record {
           insns = rw (length-settle success 0 B) (g .insns);
           successes = rw (settle-gone success 0 (s .insns) B) (omega arith);
           failures = rw (settle-kept success 0 (s .insns) B) (g .failures);
           writings = rw (settle-writes success 0 B) (g .writings);
           near = f;
-          lines = lines-of success I₂ (resolves-lines (far C) _ I₂ r f z);
+          lines = lines-of g success I₂ r z f;
           won = rw (settle-gone success 0 (s .insns) B) (cut Y Y₁ (places success (s .insns) B) (s .success) (t .success) y (omega arith) (g .won));
           lost = rw (settle-kept success 0 (s .insns) B) (g .lost);
         };
@@ -245,17 +303,16 @@ module _ {B : Block} {I Y N I₁ Y₁ N₁ : List ℕ} {s t : Patches} (g : Grew
   pub settled-failure : s .failure ≤ length N → (I₂ : List ℕ) (r : Bool) → Resolves (resolve (slice (s .failure) (t .failure) N₁) (t .insns) I₁) I₂ r
       → Ended (settle failure 0 B) I Y N s I₂ Y₁ N₁ (record { insns = t .insns; success = t .success; failure = s .failure; «x_writes» = t .«x_writes» }) r
   settled-failure y I₂ r q =
-      let C = settle failure 0 B in
-      let z = subst (λ x. Resolves x I₂ r) (ap (λ (x : List ℕ). resolve x (t .insns) I₁) (failure-segment g y) ∙ resolved g failure h) q in
+      let z = rw (failure-segment g y) at q in
       record {
-        near = resolves-near (far C) _ I₂ r z;
+        near = judges g failure I₂ r z;
         grew = λ f. record {
           insns = rw (length-settle failure 0 B) (g .insns);
           successes = rw (settle-kept failure 0 (s .insns) B) (g .successes);
           failures = rw (settle-gone failure 0 (s .insns) B) (omega arith);
           writings = rw (settle-writes failure 0 B) (g .writings);
           near = f;
-          lines = lines-of failure I₂ (resolves-lines (far C) _ I₂ r f z);
+          lines = lines-of g failure I₂ r z f;
           won = rw (settle-kept failure 0 (s .insns) B) (g .won);
           lost = rw (settle-gone failure 0 (s .insns) B) (cut N N₁ (places failure (s .insns) B) (s .failure) (t .failure) y (omega arith) (g .lost));
         };
@@ -263,13 +320,13 @@ module _ {B : Block} {I Y N I₁ Y₁ N₁ : List ℕ} {s t : Patches} (g : Grew
 
 -- what `otherwise` does to a block that was added: a `ja` after it, and its failures settled
 pub otherwise-ended : {B : Block} {I₀ Y₀ N₀ I Y N I₁ Y₁ : List ℕ} {s₀ s t : Patches} (mark : ℕ) → Grew B I₀ Y₀ N₀ s₀ I Y N s
-    → PutSuccess (ja (leave success) ∷ []) I Y s I₁ Y₁ t → s₀ .failure ≡ mark → s₀ .insns ≤ length I₀ → s₀ .failure ≤ length N₀
+    → PutSuccess (ja (leave success) ∷ []) I Y s I₁ Y₁ t → s₀ .failure ≡ mark → s₀ .failure ≤ length N₀
     → (I₂ : List ℕ) (r : Bool) → Resolves (resolve (slice mark (s .failure) N) (t .insns) I₁) I₂ r
     → Ended (otherwise B) I₀ Y₀ N₀ s₀ I₂ Y₁ N (record { insns = t .insns; success = t .success; failure = mark; «x_writes» = t .«x_writes» }) r
 unfolding otherwise
-otherwise-ended {N = N} {s = s} {t} mark g j e hI hN I₂ r q =
+otherwise-ended {N = N} {s = s} {t} mark g j e hN I₂ r q =
     let f : s .failure ≡ t .failure = omega (arith, j .failures) in
-    rw (← e) (settled-failure (then g (j .grew N)) hI hN I₂ r (rw (← e, f) at q))
+    rw (← e) (settled-failure (then g (j .grew N)) hN I₂ r (rw (← e, f) at q))
 
 -- ---- turning, after `otherwise`: the two stacks were lent exchanged
 
@@ -346,7 +403,7 @@ turn-grew B {s = s} g =
       failures = rw n (g .successes);
       writings = rw (turn-writes C) (g .writings);
       near = rw (turn-far C) (g .near);
-      lines = rw (turn-packs C) (g .lines);
+      lines = λ h. rw (turn-packs C) (g .lines h);
       won = rw y (g .lost);
       lost = rw n (g .won);
     }

@@ -1,4 +1,5 @@
 -- What the functions of the generator leave in the lent slices: I the lines, Y the stack of pending successes, N that of pending failures.
+-- Lines are written as far as I reaches: who asks for the count alone lends none.
 use Prim.Native.Nat.{ℕ, _+_, _≤_, _<_}
 use mathlib.Core.Path.{_≡_}
 use mathlib.Core.List.{List, [], _∷_, _++_}
@@ -13,35 +14,32 @@ use Rattle.emit.specs.declared.Emission.{Emission}
 use Rattle.emit.specs.declared.Emission.the-variants.{Done, Refused}
 use Rattle.emit.specs.Lines.{packs, places, writes, Patched, patched, tooFar}
 
--- there is room for n more lines
-pub record Room (n : ℕ) (I Y N : List ℕ) (s : Patches) : Type 0 where
-  pub insns : s .insns + n ≤ length I
+-- places for n more lines, which 16 bits hold, and room for their pending jumps
+pub record Room (n : ℕ) (Y N : List ℕ) (s : Patches) : Type 0 where
+  pub insns : s .insns + n ≤ 65536
   pub successes : s .success + n ≤ length Y
   pub failures : s .failure + n ≤ length N
   pub writings : s .«x_writes» + n ≤ 65536
-  pub cap : length I ≤ 65536
 
--- the same of the lines and one stack, filled up to `top`
-pub record Space (n : ℕ) (I S : List ℕ) (s : Patches) (top : ℕ) : Type 0 where
-  pub insns : s .insns + n ≤ length I
+-- the same with one stack, filled up to `top`
+pub record Space (n : ℕ) (S : List ℕ) (s : Patches) (top : ℕ) : Type 0 where
+  pub insns : s .insns + n ≤ 65536
   pub stack : top + n ≤ length S
   pub writings : s .«x_writes» + n ≤ 65536
-  pub cap : length I ≤ 65536
 
--- the same of the lines alone
-pub record Place (n : ℕ) (I : List ℕ) (s : Patches) : Type 0 where
-  pub insns : s .insns + n ≤ length I
+-- the same of lines that jump nowhere
+pub record Place (n : ℕ) (s : Patches) : Type 0 where
+  pub insns : s .insns + n ≤ 65536
   pub writings : s .«x_writes» + n ≤ 65536
-  pub cap : length I ≤ 65536
 
--- the block B was added: its lines and its pending jumps
+-- the block B was added: its lines, where I reaches to its end, and its pending jumps
 pub record Grew (B : Block) (I Y N : List ℕ) (s : Patches) (I′ Y′ N′ : List ℕ) (t : Patches) : Type 0 where
   pub insns : t .insns ≡ s .insns + length B
   pub successes : t .success ≡ s .success + length (places success (s .insns) B)
   pub failures : t .failure ≡ s .failure + length (places failure (s .insns) B)
   pub writings : t .«x_writes» ≡ s .«x_writes» + writes B
   pub near : far B ≡ false
-  pub lines : take (t .insns) I′ ≡ take (s .insns) I ++ packs B
+  pub lines : t .insns ≤ length I′ → take (t .insns) I′ ≡ take (s .insns) I ++ packs B
   pub won : take (t .success) Y′ ≡ take (s .success) Y ++ places success (s .insns) B
   pub lost : take (t .failure) N′ ≡ take (s .failure) N ++ places failure (s .insns) B
 
@@ -102,5 +100,5 @@ pub record Ended (C : Block) (I Y N : List ℕ) (s : Patches) (I′ Y′ N′ : 
 -- `otherwise` of a block that was added since the stack of failures was `mark` long
 pub record Otherwise (mark : ℕ) (I Y N : List ℕ) (s : Patches) (I′ Y′ N′ : List ℕ) (t : Patches) (r : Bool) : Type 0 where
   pub ended : (B : Block) (I₀ Y₀ N₀ : List ℕ) (s₀ : Patches) → Grew B I₀ Y₀ N₀ s₀ I Y N s → s₀ .failure ≡ mark
-      → s₀ .insns ≤ length I₀ → s₀ .failure ≤ length N₀
+      → s₀ .failure ≤ length N₀
       → Ended (otherwise B) I₀ Y₀ N₀ s₀ I′ Y′ N′ t r

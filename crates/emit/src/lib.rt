@@ -5,7 +5,7 @@ use error::Refusal;
 ghost use mathlib.Core.Path.{_≡_};
 ghost use mathlib.Core.List.{[], _∷_, _++_};
 ghost use Prim.Native.Nat.{_+_, _*_, _-_, _^_, _%_, _≤_, _<_};
-ghost use lib.ListN.{length};
+ghost use lib.ListN.{length, getD, set};
 ghost use lib.Seq.{slice};
 ghost use lib.Dec.{eqb};
 ghost use mathlib.Core.Bool.{cond};
@@ -62,13 +62,22 @@ fn counted(before: usize, code: u16) -> usize
     before
 }
 
+// Writes a line at its place, if the lent lines reach so far.
+pub fn put_line(insns: &mut [u64], place: usize, line: u64)
+    ensures { λ _. ⌜ now (insns .exit) ≡ set (now (insns .entry)) place line ⌝ }
+{
+    if place < insns.len() {
+        insns[place] = line;
+    }
+}
+
 pub fn push(insns: &mut [u64], p: Patches, code: u16, k: u32) -> Patches
-    requires { ⌜ Place 1 (now insns) p × (opInsn (opOf code k) .code ≡ code) × (opInsn (opOf code k) .k ≡ k) ⌝ }
+    requires { ⌜ Place 1 p × (opInsn (opOf code k) .code ≡ code) × (opInsn (opOf code k) .k ≡ k) ⌝ }
     ensures { λ r. ⌜ Put (op (opOf code k) ∷ []) (now (insns .entry)) p (now (insns .exit)) r ⌝ }
 {
     let n = p.insns;
     let x = counted(p.x_writes, code);
-    insns[n] = line(code, 0, 0, k);
+    put_line(insns, n, line(code, 0, 0, k));
     Patches {
         insns: n + 1,
         success: p.success,
@@ -86,12 +95,12 @@ pub fn test_failure(
     k: u32,
     field: u8,
 ) -> Patches
-    requires { ⌜ Space 1 (now insns) (now failure) p (p .failure) × (testCode (testOf code) ≡ code) × (fieldOf (slotOf field) ≡ field) ⌝ }
+    requires { ⌜ Space 1 (now failure) p (p .failure) × (testCode (testOf code) ≡ code) × (fieldOf (slotOf field) ≡ field) ⌝ }
     ensures { λ r. ⌜ PutFailure (test (testOf code) k (slotOf field) (leave B.failure) ∷ []) (now (insns .entry)) (now (failure .entry)) p (now (insns .exit)) (now (failure .exit)) r ⌝ }
 {
     let n = p.insns;
     let m = p.failure;
-    insns[n] = line(code, field, 0, k);
+    put_line(insns, n, line(code, field, 0, k));
     failure[m] = n as u16;
     Patches {
         insns: n + 1,
@@ -103,12 +112,12 @@ pub fn test_failure(
 
 // A jeq whose jt succeeds.
 pub fn test_success(insns: &mut [u64], success: &mut [u16], p: Patches, k: u32) -> Patches
-    requires { ⌜ Space 1 (now insns) (now success) p (p .success) ⌝ }
+    requires { ⌜ Space 1 (now success) p (p .success) ⌝ }
     ensures { λ r. ⌜ PutSuccess (test jeq k jt (leave B.success) ∷ []) (now (insns .entry)) (now (success .entry)) p (now (insns .exit)) (now (success .exit)) r ⌝ }
 {
     let n = p.insns;
     let m = p.success;
-    insns[n] = line(0x15, 1, 0, k);
+    put_line(insns, n, line(0x15, 1, 0, k));
     success[m] = n as u16;
     Patches {
         insns: n + 1,
@@ -120,11 +129,11 @@ pub fn test_success(insns: &mut [u64], success: &mut [u16], p: Patches, k: u32) 
 
 // A jeq whose jt goes over d lines.
 pub fn test_skip(insns: &mut [u64], p: Patches, k: u32, d: u8) -> Patches
-    requires { ⌜ Place 1 (now insns) p ⌝ }
+    requires { ⌜ Place 1 p ⌝ }
     ensures { λ r. ⌜ Put (test jeq k jt (skip d) ∷ []) (now (insns .entry)) p (now (insns .exit)) r ⌝ }
 {
     let n = p.insns;
-    insns[n] = line(0x15, 1, d, k);
+    put_line(insns, n, line(0x15, 1, d, k));
     Patches {
         insns: n + 1,
         success: p.success,
@@ -134,12 +143,12 @@ pub fn test_skip(insns: &mut [u64], p: Patches, k: u32, d: u8) -> Patches
 }
 
 fn ja_success(insns: &mut [u64], success: &mut [u16], p: Patches) -> Patches
-    requires { ⌜ Space 1 (now insns) (now success) p (p .success) ⌝ }
+    requires { ⌜ Space 1 (now success) p (p .success) ⌝ }
     ensures { λ r. ⌜ PutSuccess (ja (leave B.success) ∷ []) (now (insns .entry)) (now (success .entry)) p (now (insns .exit)) (now (success .exit)) r ⌝ }
 {
     let n = p.insns;
     let m = p.success;
-    insns[n] = line(0x05, 3, 0, 0);
+    put_line(insns, n, line(0x05, 3, 0, 0));
     success[m] = n as u16;
     Patches {
         insns: n + 1,
@@ -150,11 +159,11 @@ fn ja_success(insns: &mut [u64], success: &mut [u16], p: Patches) -> Patches
 }
 
 pub fn ja_skip(insns: &mut [u64], p: Patches, d: u8) -> Patches
-    requires { ⌜ Place 1 (now insns) p ⌝ }
+    requires { ⌜ Place 1 p ⌝ }
     ensures { λ r. ⌜ Put (ja (skip d) ∷ []) (now (insns .entry)) p (now (insns .exit)) r ⌝ }
 {
     let n = p.insns;
-    insns[n] = line(0x05, 3, d, 0);
+    put_line(insns, n, line(0x05, 3, d, 0));
     Patches {
         insns: n + 1,
         success: p.success,
@@ -173,9 +182,19 @@ fn with_distance(w: u64, d: u64) -> u64
     w % 65536 + d * 65536 + w / 16777216 * 16777216
 }
 
+// Gives the line at a place its distance, if the lent lines reach so far.
+fn resolve_line(insns: &mut [u64], place: usize, d: u64)
+    requires { ⌜ d < 256 ⌝ }
+    ensures { λ _. ⌜ now (insns .exit) ≡ set (now (insns .entry)) place (withDistance (getD (now (insns .entry)) place 0) d) ⌝ }
+{
+    if place < insns.len() {
+        insns[place] = with_distance(insns[place], d);
+    }
+}
+
 // Gives the pending jumps from `from` up to `to` of a stack their distance to `target`, or answers false where one exceeds 255.
 pub fn resolve_all(insns: &mut [u64], stack: &[u16], from: usize, to: usize, target: usize) -> bool
-    requires { ⌜ (from ≤ to) × (to ≤ length (now stack)) × (target ≤ length (now insns)) × Below target (slice from to (now stack)) ⌝ }
+    requires { ⌜ (from ≤ to) × (to ≤ length (now stack)) × Below target (slice from to (now stack)) ⌝ }
     ensures { λ r. ⌜ Resolves (resolve (slice from to (now (stack .entry))) target (now (insns .entry))) (now (insns .exit)) r ⌝ }
 {
     let mut i = from;
@@ -185,7 +204,7 @@ pub fn resolve_all(insns: &mut [u64], stack: &[u16], from: usize, to: usize, tar
         if 255 < d {
             return false;
         }
-        insns[place] = with_distance(insns[place], d as u64);
+        resolve_line(insns, place, d as u64);
         i += 1;
     }
     true
@@ -199,7 +218,7 @@ pub fn otherwise(
     p: Patches,
     mark: usize,
 ) -> Settled
-    requires { ⌜ Space 1 (now insns) (now success) p (p .success) × (mark ≤ p .failure) × (p .failure ≤ length (now failure)) × Below (p .insns) (slice mark (p .failure) (now failure)) ⌝ }
+    requires { ⌜ Space 1 (now success) p (p .success) × (mark ≤ p .failure) × (p .failure ≤ length (now failure)) × Below (p .insns) (slice mark (p .failure) (now failure)) ⌝ }
     ensures { λ r. ⌜ Otherwise mark (now (insns .entry)) (now (success .entry)) (now (failure .entry)) p (now (insns .exit)) (now (success .exit)) (now (failure .exit)) (r .patches) (r .near) ⌝ }
 {
     let to = p.failure;
@@ -222,7 +241,7 @@ pub fn otherwise(
 
 // `jeq_k` whose jf fails.
 pub fn need(insns: &mut [u64], failure: &mut [u16], p: Patches, k: u32) -> Patches
-    requires { ⌜ Space 1 (now insns) (now failure) p (p .failure) ⌝ }
+    requires { ⌜ Space 1 (now failure) p (p .failure) ⌝ }
     ensures { λ r. ⌜ PutFailure (E.need k ∷ []) (now (insns .entry)) (now (failure .entry)) p (now (insns .exit)) (now (failure .exit)) r ⌝ }
 {
     test_failure(insns, failure, p, 0x15, k, 2)
@@ -235,7 +254,7 @@ pub fn check_byte(
     off: u32,
     expected: u32,
 ) -> Patches
-    requires { ⌜ Space 2 (now insns) (now failure) p (p .failure) ⌝ }
+    requires { ⌜ Space 2 (now failure) p (p .failure) ⌝ }
     ensures { λ r. ⌜ PutFailure (E.check byte off expected) (now (insns .entry)) (now (failure .entry)) p (now (insns .exit)) (now (failure .exit)) r ⌝ }
 {
     let t = push(insns, p, 0x30, off);
@@ -249,7 +268,7 @@ pub fn check_halfword(
     off: u32,
     expected: u32,
 ) -> Patches
-    requires { ⌜ Space 2 (now insns) (now failure) p (p .failure) ⌝ }
+    requires { ⌜ Space 2 (now failure) p (p .failure) ⌝ }
     ensures { λ r. ⌜ PutFailure (E.check half off expected) (now (insns .entry)) (now (failure .entry)) p (now (insns .exit)) (now (failure .exit)) r ⌝ }
 {
     let t = push(insns, p, 0x28, off);
@@ -263,7 +282,7 @@ pub fn check_word(
     off: u32,
     expected: u32,
 ) -> Patches
-    requires { ⌜ Space 2 (now insns) (now failure) p (p .failure) ⌝ }
+    requires { ⌜ Space 2 (now failure) p (p .failure) ⌝ }
     ensures { λ r. ⌜ PutFailure (E.check word off expected) (now (insns .entry)) (now (failure .entry)) p (now (insns .exit)) (now (failure .exit)) r ⌝ }
 {
     let t = push(insns, p, 0x20, off);

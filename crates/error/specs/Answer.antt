@@ -4,7 +4,7 @@ use mathlib.Core.List.{List, [], _∷_}
 use mathlib.Core.Bool.{Bool, false, _||_}
 use lib.Dec.{eqb, T}
 use Rattle.error.specs.declared.Refusal.{Refusal}
-use Rattle.error.specs.declared.Refusal.the-variants.{StrangeFile, WrongCount, BadRecord, NotOneTree, KindOnRaw, PortProtocol, EtherOnRaw, FarJump, ShortBuffer, LongFrame, OddProgram, NoCapture, OtherLink, CutFrame, CookedAddress, UnknownWord, Unfinished, TooLarge}
+use Rattle.error.specs.declared.Refusal.the-variants.{StrangeFile, WrongCount, BadRecord, NotOneTree, KindOnRaw, PortProtocol, EtherOnRaw, FarJump, ShortBuffer, LongFrame, OddProgram, NoCapture, OtherLink, CutFrame, CookedAddress, UnknownWord, Unfinished, TooLarge, CountMoved}
 
 -- "| Number | Word | Given when |"
 abbrev pub numberOf : Refusal → ℕ
@@ -29,6 +29,8 @@ numberOf CookedAddress = 15
 numberOf UnknownWord = 16
 numberOf Unfinished = 17
 numberOf TooLarge = 18
+-- T-05: 19 "count moved"
+numberOf CountMoved = 19
 
 -- a number is one of these
 abbrev pub among : List ℕ → ℕ → Bool

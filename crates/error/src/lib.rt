@@ -22,6 +22,7 @@ pub enum Refusal {
     UnknownWord,
     Unfinished,
     TooLarge,
+    CountMoved,
 }
 
 // The number, which is not 0 and takes a byte.
@@ -47,5 +48,6 @@ pub fn refusal_number(refusal: Refusal) -> u32
         Refusal::UnknownWord => 16,
         Refusal::Unfinished => 17,
         Refusal::TooLarge => 18,
+        Refusal::CountMoved => 19,
     }
 }

@@ -50,7 +50,7 @@ fn emit_sender(
     four: u32,
     two: u32,
 ) -> Emission
-    requires { ⌜ Space 6 (now insns) (now failure) p (p .failure) ⌝ }
+    requires { ⌜ Space 6 (now failure) p (p .failure) ⌝ }
     ensures { λ r. ⌜ ReplyFailure (E.unlearned (E.sender dir (L.macBlock four two 6)) facts) (now (insns .entry)) (now (failure .entry)) p (now (insns .exit)) (now (failure .exit)) r ⌝ }
 {
     match dir {
@@ -80,7 +80,7 @@ pub fn emit_ether_host(
     four: u32,
     two: u32,
 ) -> Emission
-    requires { ⌜ Room 9 (now insns) (now success) (now failure) p ⌝ }
+    requires { ⌜ Room 9 (now success) (now failure) p ⌝ }
     ensures { λ r. ⌜ Reply (E.ether link (E.checkBlocks (E.turned dir) (L.macBlock four two 0) (L.macBlock four two 6)) (E.sender dir (L.macBlock four two 6)) facts) (now (insns .entry)) (now (success .entry)) (now (failure .entry)) p (now (insns .exit)) (now (success .exit)) (now (failure .exit)) r ⌝ }
 {
     match link {
@@ -114,7 +114,7 @@ pub fn emit_ether_multicast(
     p: Patches,
     facts: Facts,
 ) -> Emission
-    requires { ⌜ Space 2 (now insns) (now failure) p (p .failure) ⌝ }
+    requires { ⌜ Space 2 (now failure) p (p .failure) ⌝ }
     ensures { λ r. ⌜ ReplyFailure (E.emitPrimitive link EtherMulticast facts) (now (insns .entry)) (now (failure .entry)) p (now (insns .exit)) (now (failure .exit)) r ⌝ }
 {
     match link {

@@ -3,6 +3,7 @@ mod count;
 mod list;
 mod over;
 mod run;
+mod size;
 mod tree;
 mod typed;
 
@@ -69,6 +70,7 @@ fn put_refusal(fd: i32, r: Refusal) -> bool {
         Refusal::UnknownWord => text(fd, b"unknown word"),
         Refusal::Unfinished => text(fd, b"unfinished"),
         Refusal::TooLarge => text(fd, b"too large"),
+        Refusal::CountMoved => text(fd, b"count moved"),
     }
 }
 
@@ -174,6 +176,9 @@ pub fn answer(from: usize, to: usize, o: Output) -> u8 {
     }
     if check::same(&word[..n], b"list") {
         return list::answer(from + 1, to, o);
+    }
+    if check::same(&word[..n], b"size") {
+        return size::answer(from + 1, to, o);
     }
     if check::same(&word[..n], b"run") {
         return tree::answer(Job::Over(Work::Run), from + 1, to, o);

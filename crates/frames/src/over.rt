@@ -1,4 +1,4 @@
-// A tree's program over the files that are named after it: what `pft run` and `pft count` share.
+// The files that are named: what `pft size`, `pft run` and `pft count` share. For the last two a tree's program works over them.
 use crate::DONE;
 use crate::Output;
 use crate::UNWRITTEN;
@@ -7,14 +7,16 @@ use crate::count;
 use crate::first;
 use crate::refused;
 use crate::run;
+use crate::size;
 use crate::text;
 use crate::unread_argument;
 use crate::worse;
 use build::BuildResult;
 use error::Refusal;
 
-// What is done with each file: it is run as a frame, or its frames are counted.
+// What is done with each file: it is asked for its size as a tree, run as a frame, or its frames are counted.
 pub enum Work {
+    Size,
     Run,
     Count,
 }
@@ -23,6 +25,7 @@ pub enum Work {
 
 fn try_file(work: Work, name: &[u8], tree: &[u8], program: &[u8], o: Output) -> u8 {
     match work {
+        Work::Size => size::try_file(name, o),
         Work::Run => run::try_file(name, tree, program, o),
         Work::Count => count::try_file(name, tree, program, o),
     }
@@ -39,7 +42,14 @@ fn try_argument(work: Work, i: usize, tree: &[u8], program: &[u8], o: Output) ->
 }
 
 // The arguments from one number up to another.
-fn try_arguments(work: Work, from: usize, to: usize, tree: &[u8], program: &[u8], o: Output) -> u8 {
+pub fn try_arguments(
+    work: Work,
+    from: usize,
+    to: usize,
+    tree: &[u8],
+    program: &[u8],
+    o: Output,
+) -> u8 {
     let mut worst = DONE;
     let mut i = from;
     while i < to && worst < UNWRITTEN {
@@ -75,13 +85,13 @@ fn without_program(
 ) -> u8 {
     let ended = refused(o, name, r);
     match work {
-        Work::Count => ended,
         Work::Run => {
             if is_tree(r) {
                 return worse(ended, try_arguments(work, from, to, tree, b"", o));
             }
             ended
         }
+        _ => ended,
     }
 }
 

@@ -7,16 +7,18 @@ use crate::list;
 use crate::list::Refusals;
 use crate::over;
 use crate::over::Work;
+use crate::size;
 use crate::text;
 use crate::typed;
 use crate::unread;
 use crate::unread_argument;
 use listing::Form;
 
-// What is done with a tree: its file is written, its program is listed, or works over files.
+// What is done with a tree: its file is written, its program is listed, its size is told, or its program works over files.
 pub enum Job {
     Write,
     List(Form, Refusals),
+    Size,
     Over(Work),
 }
 
@@ -27,6 +29,7 @@ pub fn with_tree(job: Job, name: &[u8], tree: &[u8], from: usize, to: usize, o: 
     match job {
         Job::Write => answered(o, text(o.answers, tree)),
         Job::List(form, told) => list::with_tree(name, tree, form, told, o),
+        Job::Size => size::with_tree(name, tree, o),
         Job::Over(work) => over::with_tree(work, name, tree, from, to, o),
     }
 }

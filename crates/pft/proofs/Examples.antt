@@ -1,14 +1,15 @@
--- Answers of T-01 and T-04 as C gets them, computed: refusal × 2^32 + accepted frames, + captured length, or + place.
+-- Answers of T-01, T-04 and T-05 as C gets them, computed: refusal × 2^32 + accepted frames, + captured length, or + place; refusal × 65,536 + count.
 use mathlib.Core.Path.{_≡_, refl}
 use mathlib.Core.List.{List, [], _∷_}
 use Prim.Native.Nat.{ℕ}
-use Rattle.error.specs.declared.Refusal.the-variants.{StrangeFile, NoCapture, OtherLink, CutFrame, UnknownWord, Unfinished, TooLarge}
+use Rattle.error.specs.declared.Refusal.the-variants.{StrangeFile, FarJump, ShortBuffer, NoCapture, OtherLink, CutFrame, CookedAddress, UnknownWord, Unfinished, TooLarge, CountMoved}
 use Rattle.error.specs.Answer.{refused, done}
+use Rattle.build.specs.declared.BuildResult.the-variants as Build
 use Rattle.capture.specs.declared.Tally.{Tally}
 use Rattle.capture.specs.declared.CountResult.the-variants.{Count, Refused}
 use Rattle.capture.specs.Counting.{none}
 use Rattle.typing.specs.declared.TypeResult.the-variants as Typed
-use Rattle.pft.specs.Numbers.{countNumber, frameNumber, typeNumber}
+use Rattle.pft.specs.Numbers.{buildNumber, countNumber, frameNumber, typeNumber}
 
 -- 3 of 5 frames are kept
 three : Tally
@@ -37,3 +38,13 @@ types =
 types-are : types ≡ (80 ∷ 0x1000000008 ∷ 0x110000000b ∷ 0x1200000000 ∷ 0x100000000 ∷ [])
 unfolding types
 types-are = refl
+
+-- a question answers the first three, a load all
+loads : List ℕ
+loads =
+    buildNumber (Build.Count 3946) ∷ buildNumber (Build.Refused FarJump) ∷ buildNumber (Build.Refused CookedAddress) ∷ buildNumber (Build.Refused CountMoved)
+    ∷ buildNumber (Build.Refused ShortBuffer) ∷ []
+
+loads-are : loads ≡ (3946 ∷ 0x80000 ∷ 0xf0000 ∷ 0x130000 ∷ 0x90000 ∷ [])
+unfolding loads
+loads-are = refl

@@ -16,7 +16,7 @@ use Rattle.typing.specs.declared.TypeResult.the-variants.{Length, Refused}
 
 -- the number of this interface: a landing that adds to it raises it by one
 abbrev pub version : ℕ
-version = 4
+version = 5
 
 -- a refusal as "256 + refusal number"; 0 where there is none
 abbrev pub beyond : ℕ → ℕ

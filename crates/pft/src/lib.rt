@@ -15,13 +15,13 @@ ghost use lib.ListN.{length};
 ghost use Rattle.error.specs.Answer.{numberOf};
 ghost use Rattle.vm.specs.Machine as M;
 ghost use Rattle.direct.specs.Direct.{direct};
-ghost use Rattle.build.specs.Build.{build};
+ghost use Rattle.build.specs.Build.{build, question, load};
 ghost use Rattle.capture.specs.Capture.{frameAt};
 ghost use Rattle.count.specs.Count.{count};
 ghost use Rattle.typing.specs.Typed.{typed};
 ghost use Rattle.pft.specs.Numbers.{version, runNumber, buildNumber, directNumber, countNumber, frameNumber, typeNumber};
 
-const VERSION: u32 = 4;
+const VERSION: u32 = 5;
 
 fn truth(b: bool) -> u32
     ensures { λ r. ⌜ r ≡ cond b 1 0 ⌝ }
@@ -37,15 +37,38 @@ pub extern "C" fn pft_version() -> u32
     VERSION
 }
 
+// A count, or a refusal times 65,536.
+fn build_number(result: BuildResult) -> u32
+    ensures { λ r. ⌜ r ≡ buildNumber result ⌝ }
+{
+    match result {
+        BuildResult::Count(n) => n,
+        BuildResult::Refused(r) => refusal_number(r) * 65536,
+    }
+}
+
 // The build of a tree file into a lent buffer, as one number.
 #[no_mangle]
 pub extern "C" fn pft_build(tree: &[u8], program: &mut [u8]) -> u32
     ensures { λ r. ⌜ (r ≡ buildNumber (build (now (tree .entry)) (length (now (program .entry))) .answer)) × (now (program .exit) ≡ build (now (tree .entry)) (length (now (program .entry))) .buffer) ⌝ }
 {
-    match build::build(tree, program) {
-        BuildResult::Count(n) => n,
-        BuildResult::Refused(r) => refusal_number(r) * 65536,
-    }
+    build_number(build::build(tree, program))
+}
+
+// The count or refusal of a tree file, as one number.
+#[no_mangle]
+pub extern "C" fn pft_question(tree: &[u8]) -> u32
+    ensures { λ r. ⌜ r ≡ buildNumber (question (now (tree .entry))) ⌝ }
+{
+    build_number(build::question(tree))
+}
+
+// The build of a tree file that still has this count, as one number.
+#[no_mangle]
+pub extern "C" fn pft_load(tree: &[u8], count: u32, program: &mut [u8]) -> u32
+    ensures { λ r. ⌜ (r ≡ buildNumber (load (now (tree .entry)) count (length (now (program .entry))) .answer)) × (now (program .exit) ≡ load (now (tree .entry)) count (length (now (program .entry))) .buffer) ⌝ }
+{
+    build_number(build::load(tree, count, program))
 }
 
 // The direct reading of a tree file on a frame, as one number.

@@ -56,7 +56,7 @@ fn l4_len(want: L4Set) -> u8
 
 // A is a protocol of the set.
 fn emit_l4_set_check(insns: &mut [u64], failure: &mut [u16], p: Patches, want: L4Set) -> Patches
-    requires { ⌜ Space 2 (now insns) (now failure) p (p .failure) ⌝ }
+    requires { ⌜ Space 2 (now failure) p (p .failure) ⌝ }
     ensures { λ r. ⌜ PutFailure (E.l4SetCheck want) (now (insns .entry)) (now (failure .entry)) p (now (insns .exit)) (now (failure .exit)) r ⌝ }
 {
     match want {
@@ -70,7 +70,7 @@ fn emit_l4_set_check(insns: &mut [u64], failure: &mut [u16], p: Patches, want: L
 
 // The protocol byte is of the set.
 fn l4_check(insns: &mut [u64], failure: &mut [u16], p: Patches, off: u32, want: L4Set) -> Patches
-    requires { ⌜ Space 3 (now insns) (now failure) p (p .failure) ⌝ }
+    requires { ⌜ Space 3 (now failure) p (p .failure) ⌝ }
     ensures { λ r. ⌜ PutFailure (E.l4Check off want) (now (insns .entry)) (now (failure .entry)) p (now (insns .exit)) (now (failure .exit)) r ⌝ }
 {
     let q = push(insns, p, 0x30, off);
@@ -79,7 +79,7 @@ fn l4_check(insns: &mut [u64], failure: &mut [u16], p: Patches, off: u32, want: 
 
 // No later fragment, and X the header's length.
 fn header4(insns: &mut [u64], failure: &mut [u16], p: Patches, n: u32) -> Patches
-    requires { ⌜ Space 3 (now insns) (now failure) p (p .failure) × (n ≤ 16) ⌝ }
+    requires { ⌜ Space 3 (now failure) p (p .failure) × (n ≤ 16) ⌝ }
     ensures { λ r. ⌜ PutFailure (E.header4 n) (now (insns .entry)) (now (failure .entry)) p (now (insns .exit)) (now (failure .exit)) r ⌝ }
 {
     let q = push(insns, p, 0x28, n + 6);
@@ -89,7 +89,7 @@ fn header4(insns: &mut [u64], failure: &mut [u16], p: Patches, n: u32) -> Patche
 
 // An IPv6 header has 40 bytes.
 fn header6(insns: &mut [u64], p: Patches) -> Patches
-    requires { ⌜ Place 1 (now insns) p ⌝ }
+    requires { ⌜ Place 1 p ⌝ }
     ensures { λ r. ⌜ Put E.header6 (now (insns .entry)) p (now (insns .exit)) r ⌝ }
 {
     push(insns, p, 0x01, 40)
@@ -97,7 +97,7 @@ fn header6(insns: &mut [u64], p: Patches) -> Patches
 
 // What X needs.
 fn header(insns: &mut [u64], failure: &mut [u16], p: Patches, version: Version, n: u32) -> Patches
-    requires { ⌜ Space 3 (now insns) (now failure) p (p .failure) × (n ≤ 16) ⌝ }
+    requires { ⌜ Space 3 (now failure) p (p .failure) × (n ≤ 16) ⌝ }
     ensures { λ r. ⌜ PutFailure (L.header version n) (now (insns .entry)) (now (failure .entry)) p (now (insns .exit)) (now (failure .exit)) r ⌝ }
 {
     match version {
@@ -115,7 +115,7 @@ fn path(
     n: u32,
     want: L4Set,
 ) -> Patches
-    requires { ⌜ Space 6 (now insns) (now failure) p (p .failure) × (n ≤ 16) ⌝ }
+    requires { ⌜ Space 6 (now failure) p (p .failure) × (n ≤ 16) ⌝ }
     ensures { λ r. ⌜ PutFailure (L.path version n want) (now (insns .entry)) (now (failure .entry)) p (now (insns .exit)) (now (failure .exit)) r ⌝ }
 {
     let off = n + proto_place(version);
@@ -125,7 +125,7 @@ fn path(
 
 // The ethertype: IPv6 goes d lines ahead, IPv4 falls through.
 fn fork(insns: &mut [u64], failure: &mut [u16], p: Patches, off: u32, d: u8) -> Patches
-    requires { ⌜ Space 3 (now insns) (now failure) p (p .failure) ⌝ }
+    requires { ⌜ Space 3 (now failure) p (p .failure) ⌝ }
     ensures { λ r. ⌜ PutFailure (op (ldAbs half off) ∷ test jeq 0x86dd jt (skip d) ∷ E.need 0x0800 ∷ []) (now (insns .entry)) (now (failure .entry)) p (now (insns .exit)) (now (failure .exit)) r ⌝ }
 {
     let q = push(insns, p, 0x28, off);
@@ -142,7 +142,7 @@ fn dual_path(
     n: u32,
     want: L4Set,
 ) -> Patches
-    requires { ⌜ Space 14 (now insns) (now failure) p (p .failure) × (n ≤ 16) ⌝ }
+    requires { ⌜ Space 14 (now failure) p (p .failure) × (n ≤ 16) ⌝ }
     ensures { λ r. ⌜ PutFailure (E.dualPath off n want) (now (insns .entry)) (now (failure .entry)) p (now (insns .exit)) (now (failure .exit)) r ⌝ }
 {
     let len = l4_len(want);
@@ -176,7 +176,7 @@ fn pinned(
     n: u32,
     want: L4Set,
 ) -> Emitted
-    requires { ⌜ Space 6 (now insns) (now failure) p (p .failure) × (n ≤ 16) ⌝ }
+    requires { ⌜ Space 6 (now failure) p (p .failure) × (n ≤ 16) ⌝ }
     ensures { λ r. ⌜ MadeFailure (E.established (L.learnProto version) facts (E.pinned (L.protoFact version facts) (n + L.protoPlace version) want (L.header version n))) (now (insns .entry)) (now (failure .entry)) p (now (insns .exit)) (now (failure .exit)) r ⌝ }
 {
     let known = proto_fact(version, facts);
@@ -218,7 +218,7 @@ fn narrowed(
     n: u32,
     want: L4Set,
 ) -> Emitted
-    requires { ⌜ Space 6 (now insns) (now failure) p (p .failure) × (n ≤ 16) ⌝ }
+    requires { ⌜ Space 6 (now failure) p (p .failure) × (n ≤ 16) ⌝ }
     ensures { λ r. ⌜ MadeFailure (E.established (L.learnProto version) facts (record { block = E.l4Check (n + L.protoPlace version) want; set = want })) (now (insns .entry)) (now (failure .entry)) p (now (insns .exit)) (now (failure .exit)) r ⌝ }
 {
     let q = l4_check(insns, failure, p, n + proto_place(version), want);
@@ -239,7 +239,7 @@ fn one_version(
     n: u32,
     want: L4Set,
 ) -> Emitted
-    requires { ⌜ Space 6 (now insns) (now failure) p (p .failure) × (n ≤ 16) ⌝ }
+    requires { ⌜ Space 6 (now failure) p (p .failure) × (n ≤ 16) ⌝ }
     ensures { λ r. ⌜ MadeFailure (E.established (L.learnProto version) facts (E.version (F.readySet (facts .«ports_ready»)) (L.protoFact version facts) (n + L.protoPlace version) want (L.header version n))) (now (insns .entry)) (now (failure .entry)) p (now (insns .exit)) (now (failure .exit)) r ⌝ }
 {
     let ports = facts.ports_ready;
@@ -259,7 +259,7 @@ fn dual(
     facts: Facts,
     want: L4Set,
 ) -> Emitted
-    requires { ⌜ Space 14 (now insns) (now failure) p (p .failure) ⌝ }
+    requires { ⌜ Space 14 (now failure) p (p .failure) ⌝ }
     ensures { λ r. ⌜ MadeFailure (E.dual (E.etherProtoOffset link) (E.netOffset link) want facts) (now (insns .entry)) (now (failure .entry)) p (now (insns .exit)) (now (failure .exit)) r ⌝ }
 {
     let offset = ether_proto_offset(link);
@@ -288,7 +288,7 @@ pub fn emit_port_prereqs_set(
     facts: Facts,
     want: L4Set,
 ) -> Emitted
-    requires { ⌜ Space 14 (now insns) (now failure) p (p .failure) ⌝ }
+    requires { ⌜ Space 14 (now failure) p (p .failure) ⌝ }
     ensures { λ r. ⌜ MadeFailure (E.portPrereqs link want facts) (now (insns .entry)) (now (failure .entry)) p (now (insns .exit)) (now (failure .exit)) r ⌝ }
 {
     let ports = facts.ports_ready;
@@ -337,7 +337,7 @@ pub fn emit_port(
     want: L4Set,
     port: u32,
 ) -> Emitted
-    requires { ⌜ Room 20 (now insns) (now success) (now failure) p ⌝ }
+    requires { ⌜ Room 20 (now success) (now failure) p ⌝ }
     ensures { λ r. ⌜ Made (Q.portedBy link want (E.checkLoads dir port (L.load 0x48 (E.netOffset link) Whole) (L.load 0x48 (E.netOffset link + 2) Whole)) facts) (now (insns .entry)) (now (success .entry)) (now (failure .entry)) p (now (insns .exit)) (now (success .exit)) (now (failure .exit)) r ⌝ }
 {
     let e = emit_port_prereqs_set(link, insns, failure, p, facts, want);
@@ -374,7 +374,7 @@ pub fn emit_portrange(
     lo: u32,
     hi: u32,
 ) -> Emitted
-    requires { ⌜ Room 21 (now insns) (now success) (now failure) p ⌝ }
+    requires { ⌜ Room 21 (now success) (now failure) p ⌝ }
     ensures { λ r. ⌜ Made (Q.portedBy link want (E.checkBlocks dir (E.checkRange lo hi (E.netOffset link)) (E.checkRange lo hi (E.netOffset link + 2))) facts) (now (insns .entry)) (now (success .entry)) (now (failure .entry)) p (now (insns .exit)) (now (success .exit)) (now (failure .exit)) r ⌝ }
 {
     let e = emit_port_prereqs_set(link, insns, failure, p, facts, want);
@@ -399,7 +399,7 @@ fn hoist_ethertype(
     facts: Facts,
     ethertype: Known,
 ) -> Emission
-    requires { ⌜ Space 2 (now insns) (now failure) p (p .failure) ⌝ }
+    requires { ⌜ Space 2 (now failure) p (p .failure) ⌝ }
     ensures { λ r. ⌜ ReplyFailure (E.hoistKnown link (cond (E.isRaw link) Unknown ethertype) (E.emitEthertype link) (E.code [] facts)) (now (insns .entry)) (now (failure .entry)) p (now (insns .exit)) (now (failure .exit)) r ⌝ }
 {
     if is_raw(link) {
@@ -426,7 +426,7 @@ fn hoist_l4(
     version: Version,
     proto: Known,
 ) -> Emission
-    requires { ⌜ Space 4 (now insns) (now failure) p (p .failure) ⌝ }
+    requires { ⌜ Space 4 (now failure) p (p .failure) ⌝ }
     ensures { λ r. ⌜ ReplyFailure (E.hoistKnown link proto (L.emitVersion link version) (E.code [] facts)) (now (insns .entry)) (now (failure .entry)) p (now (insns .exit)) (now (failure .exit)) r ⌝ }
 {
     match proto {
@@ -446,7 +446,7 @@ fn hoist_ports(
     facts: Facts,
     ports: Ports,
 ) -> Emission
-    requires { ⌜ Space 14 (now insns) (now failure) p (p .failure) ⌝ }
+    requires { ⌜ Space 14 (now failure) p (p .failure) ⌝ }
     ensures { λ r. ⌜ ReplyFailure (E.hoistPorts link (F.readySet ports) (E.code [] facts)) (now (insns .entry)) (now (failure .entry)) p (now (insns .exit)) (now (failure .exit)) r ⌝ }
 {
     match ports {
@@ -482,7 +482,7 @@ fn hoist_ip6(
     facts: Facts,
     guards: GuardSet,
 ) -> Emission
-    requires { ⌜ Space 18 (now insns) (now failure) p (p .failure) ⌝ }
+    requires { ⌜ Space 18 (now failure) p (p .failure) ⌝ }
     ensures { λ r. ⌜ ReplyFailure (Q.hoistIp6 link guards (E.code [] facts)) (now (insns .entry)) (now (failure .entry)) p (now (insns .exit)) (now (failure .exit)) r ⌝ }
 {
     let proto = guards.ip6_nh;
@@ -511,7 +511,7 @@ fn hoist_ip4(
     facts: Facts,
     guards: GuardSet,
 ) -> Emission
-    requires { ⌜ Space 22 (now insns) (now failure) p (p .failure) ⌝ }
+    requires { ⌜ Space 22 (now failure) p (p .failure) ⌝ }
     ensures { λ r. ⌜ ReplyFailure (Q.hoistIp4 link guards (E.code [] facts)) (now (insns .entry)) (now (failure .entry)) p (now (insns .exit)) (now (failure .exit)) r ⌝ }
 {
     let proto = guards.ip4_proto;
@@ -534,7 +534,7 @@ pub fn emit_or_hoist(
     facts: Facts,
     guards: GuardSet,
 ) -> Emission
-    requires { ⌜ Space 24 (now insns) (now failure) p (p .failure) ⌝ }
+    requires { ⌜ Space 24 (now failure) p (p .failure) ⌝ }
     ensures { λ r. ⌜ ReplyFailure (E.orHoist link guards facts) (now (insns .entry)) (now (failure .entry)) p (now (insns .exit)) (now (failure .exit)) r ⌝ }
 {
     let ethertype = guards.ethertype;

@@ -28,7 +28,7 @@ fn emit_proto(
     facts: Facts,
     row: GuardSet,
 ) -> Emission
-    requires { ⌜ Space 4 (now insns) (now failure) p (p .failure) ⌝ }
+    requires { ⌜ Space 4 (now failure) p (p .failure) ⌝ }
     ensures { λ r. ⌜ ReplyFailure (K.guardsEmit link row facts) (now (insns .entry)) (now (failure .entry)) p (now (insns .exit)) (now (failure .exit)) r ⌝ }
 {
     let ip4 = row.ip4_proto;
@@ -86,7 +86,7 @@ fn emit_address(
     p: Patches,
     facts: Facts,
 ) -> Emission
-    requires { ⌜ LeafHere (now tree) i × K.Address (now tree) i kind × Room 37 (now insns) (now success) (now failure) p ⌝ }
+    requires { ⌜ LeafHere (now tree) i × K.Address (now tree) i kind × Room 37 (now success) (now failure) p ⌝ }
     ensures { λ r. ⌜ Reply (E.emitPrimitive link (leafAt (now (tree .entry)) i) facts) (now (insns .entry)) (now (success .entry)) (now (failure .entry)) p (now (insns .exit)) (now (success .exit)) (now (failure .exit)) r ⌝ }
 {
     let dir = reader::direction(tree, i);
@@ -131,7 +131,7 @@ fn emit_ports(
     p: Patches,
     facts: Facts,
 ) -> Emission
-    requires { ⌜ LeafHere (now tree) i × K.PortKind (now tree) i kind × Room 37 (now insns) (now success) (now failure) p ⌝ }
+    requires { ⌜ LeafHere (now tree) i × K.PortKind (now tree) i kind × Room 37 (now success) (now failure) p ⌝ }
     ensures { λ r. ⌜ Reply (E.emitPrimitive link (leafAt (now (tree .entry)) i) facts) (now (insns .entry)) (now (success .entry)) (now (failure .entry)) p (now (insns .exit)) (now (success .exit)) (now (failure .exit)) r ⌝ }
 {
     let protocol = reader::byte_at(tree, i, 2);
@@ -162,7 +162,7 @@ fn emit_simple(
     p: Patches,
     facts: Facts,
 ) -> Emission
-    requires { ⌜ LeafHere (now tree) i × K.Simple (now tree) i kind × Space 37 (now insns) (now failure) p (p .failure) ⌝ }
+    requires { ⌜ LeafHere (now tree) i × K.Simple (now tree) i kind × Space 37 (now failure) p (p .failure) ⌝ }
     ensures { λ r. ⌜ ReplyFailure (E.emitPrimitive link (leafAt (now (tree .entry)) i) facts) (now (insns .entry)) (now (failure .entry)) p (now (insns .exit)) (now (failure .exit)) r ⌝ }
 {
     match kind {
@@ -196,7 +196,7 @@ pub fn emit_primitive(
     p: Patches,
     facts: Facts,
 ) -> Emission
-    requires { ⌜ LeafHere (now tree) i × Room 37 (now insns) (now success) (now failure) p ⌝ }
+    requires { ⌜ LeafHere (now tree) i × Room 37 (now success) (now failure) p ⌝ }
     ensures { λ r. ⌜ Reply (E.emitPrimitive link (leafAt (now (tree .entry)) i) facts) (now (insns .entry)) (now (success .entry)) (now (failure .entry)) p (now (insns .exit)) (now (success .exit)) (now (failure .exit)) r ⌝ }
 {
     let kind = reader::byte_at(tree, i, 0);

@@ -19,7 +19,7 @@ use Rattle.reader.specs.Reader.{treeOf, endOf}
 use Rattle.reader.proofs.Here.{here-and, here-or, here-not, here-leaf}
 use Rattle.reader.proofs.Firsts.{kind-is, kind-not}
 use Rattle.guards.proofs.Noting.{note-same, readable}
-use Rattle.compile.proofs.Walked.{and-left, and-right, or-left, or-right, not-part, tree-sized, hoist-sized, tree-length, other-sized, arms-done, arms-far, or-done, or-refused, not-done, not-far}
+use Rattle.compile.proofs.Walked.{many, and-left, and-right, or-left, or-right, not-part, tree-sized, hoist-sized, tree-length, other-sized, arms-done, arms-far, or-done, or-refused, not-done, not-far}
 use Prim.Native.Nat.{ℕ, _<_}
 use borrow.Fn.Kinds.{In}
 use borrow.Fn.PlainCycle.{Measures, is, falls, and}
@@ -156,7 +156,7 @@ emit-and-resolve-all-requires t c κs = let a = c .before .before .before .befor
     let w = reply-done (c .before .before .before .before .before .before .before .before .before .before .before .before .before .emit-expr .ensures) (c .before .before .before .before .before .l .given .1) in
     let z = tree-sized (a .link) (treeOf (a .tree .now) (a .i + 1)) (a .facts) (and-left v p .proper) w in
     let t = ap weight (p .tree) in
-    (omega arith, omega (arith, c .before .before .before .before .before .before .before .before .before .before .before .before .before .emit-expr .kept), omega (arith, c .before .before .before .before .before .before .before .before .before .before .before .before .before .emit-expr .kept), success-below (w .made .grew) (omega arith))
+    (omega arith, omega (arith, c .before .before .before .before .before .before .before .before .before .before .before .before .before .emit-expr .kept), success-below (w .made .grew) (omega arith))
 
 emit-and-add-noted-end : (t : ℕ) → emit-and-lts.Need-add-noted-end (
   emit-expr-below t,
@@ -182,7 +182,7 @@ emit-and-noted-end-requires t c κs = let a = c .before .before .before .before 
     let h = v .here in
     let h₁ = p .left in
     let m = c .before .before .before .before .before .before .before .before .before .before .before .before .before .before .before .before .before .before .before .before .before .before .before .before .before .before .pre .1 .2 in
-    let l = v .long in
+    let l = v .joined .long (many p) in
     omega arith
 
 emit-and-emit-expr-requires-2 : (t : ℕ) → emit-and-lts.Need-emit-expr-requires-2 (
@@ -201,7 +201,7 @@ emit-and-emit-expr-requires-2 t c κs = let a = c .before .before .before .befor
     let m = c .before .before .before .before .before .before .before .before .before .before .before .before .before .before .before .before .before .before .before .before .before .before .before .before .before .before .before .before .before .before .pre .1 .2 in
     let w = reply-done (c .before .before .before .before .before .before .before .before .before .before .before .before .before .before .before .before .before .before .before .before .before .emit-expr .ensures) (c .before .before .before .before .before .before .before .before .before .before .before .before .before .l .given .1) in
     let z = tree-sized (a .link) (treeOf (a .tree .now) (a .i + 1)) (a .facts) (and-left v p .proper) w in
-    let e : c .before .before .before .noted-end .result ≡ endOf (a .tree .now) (a .i + 1) = c .before .before .before .noted-end .ensures ∙ v .noted .note (a .i + 1) (omega arith) (h₁ .within) .ends in
+    let e : c .before .before .before .noted-end .result ≡ endOf (a .tree .now) (a .i + 1) = c .before .before .before .noted-end .ensures ∙ v .joined .noted (many p) .note (a .i + 1) (omega arith) (h₁ .within) .ends in
     rw e (omega (arith, c .before .before .before .before .before .before .before .before .before .before .before .before .before .before .before .before .before .before .before .before .before .before .before .before .before .before .before .before .before .before .pre .0, h₁), (and-right v p, omega (arith, ap weight (p .tree), c .before .before .before .before .before .before .before .before .before .before .before .before .before .before .before .before .before .before .before .before .before .emit-expr .kept, c .before .before .before .before .before .before .before .resolve-all .kept)))
 
 emit-and-same-length : (t : ℕ) → emit-and-lts.Need-same-length (
@@ -251,9 +251,9 @@ emit-and-returns t c = let a = c .before .before .before .before .before .before
     let m = c .before .before .before .before .before .before .before .before .before .before .before .before .before .before .before .before .before .before .before .before .before .before .before .before .before .before .before .before .before .before .before .before .before .before .before .before .before .pre .1 .2 in
     let w = reply-done (c .before .before .before .before .before .before .before .before .before .before .before .before .before .before .before .before .before .before .before .before .before .before .before .before .before .before .before .before .emit-expr .ensures) (c .before .before .before .before .before .before .before .before .before .before .before .before .before .before .before .before .before .before .before .before .l .given .1) in
     let z = tree-sized (a .link) (treeOf (a .tree .now) (a .i + 1)) (a .facts) (and-left v p .proper) w in
-    let e : c .before .before .before .before .before .before .before .before .before .before .noted-end .result ≡ endOf (a .tree .now) (a .i + 1) = c .before .before .before .before .before .before .before .before .before .before .noted-end .ensures ∙ v .noted .note (a .i + 1) (omega arith) (h₁ .within) .ends in
+    let e : c .before .before .before .before .before .before .before .before .before .before .noted-end .result ≡ endOf (a .tree .now) (a .i + 1) = c .before .before .before .before .before .before .before .before .before .before .noted-end .ensures ∙ v .joined .noted (many p) .note (a .i + 1) (omega arith) (h₁ .within) .ends in
     let t = ap weight (p .tree) in
-    let d = settled-success (w .made .grew) (omega arith) (omega arith) (c .before .before .before .before .before .before .before .before .before .before .before .before .before .before .resolve-all .last .0) (c .before .before .before .before .before .before .before .before .before .before .before .before .before .before .resolve-all .result) (c .before .before .before .before .before .before .before .before .before .before .before .before .before .before .resolve-all .ensures) in
+    let d = settled-success (w .made .grew) (omega arith) (c .before .before .before .before .before .before .before .before .before .before .before .before .before .before .resolve-all .last .0) (c .before .before .before .before .before .before .before .before .before .before .before .before .before .before .resolve-all .result) (c .before .before .before .before .before .before .before .before .before .before .before .before .before .before .resolve-all .ensures) in
     rw (p .tree)
     (settled-then w (λ b. settle success 0 b) d (c .before .before .before .before .before .before .before .before .before .before .before .if1 .taken) (λ b. emit (a .link) (treeOf (a .tree .now) (endOf (a .tree .now) (a .i + 1))) (b .facts))
     (rw (← w .made .facts) (rw e at (c .before .before .before .before .before .before .emit-expr2 .ensures))))
@@ -287,7 +287,7 @@ emit-and-returns-3 t c = let a = c .before .before .before .before .before .befo
     let w = reply-done (c .before .before .before .before .before .before .before .before .before .before .before .before .before .before .before .before .before .emit-expr .ensures) (c .before .before .before .before .before .before .before .before .before .l .given .1) in
     let z = tree-sized (a .link) (treeOf (a .tree .now) (a .i + 1)) (a .facts) (and-left v p .proper) w in
     let t = ap weight (p .tree) in
-    let d = settled-success (w .made .grew) (omega arith) (omega arith) (c .before .before .before .resolve-all .last .0) (c .before .before .before .resolve-all .result) (c .before .before .before .resolve-all .ensures) in
+    let d = settled-success (w .made .grew) (omega arith) (c .before .before .before .resolve-all .last .0) (c .before .before .before .resolve-all .result) (c .before .before .before .resolve-all .ensures) in
     rw (p .tree)
     (settled-refused w (λ b. settle success 0 b) d (c .if1 .left) (λ b b′. after b′ (emit (a .link) (treeOf (a .tree .now) (endOf (a .tree .now) (a .i + 1))) (b .facts))))
 
@@ -379,7 +379,7 @@ emit-arms-noted-end-requires t c κs = let a = c .before .before .before .before
     let h = v .here in
     let h₁ = p .left in
     let m = c .before .before .before .before .before .before .before .before .before .before .before .before .before .before .before .before .before .before .before .before .before .before .before .before .before .before .before .before .before .before .before .before .before .before .before .before .before .before .pre .1 .2 in
-    let l = v .long in
+    let l = v .joined .long (many p) in
     omega arith
 
 emit-arms-emit-right-requires : (t : ℕ) → emit-arms-lts.Need-emit-right-requires (
@@ -402,8 +402,8 @@ emit-arms-emit-right-requires t c κs = let a = c .before .before .before .befor
     let m = c .before .before .before .before .before .before .before .before .before .before .before .before .before .before .before .before .before .before .before .before .before .before .before .before .before .before .before .before .before .before .before .before .before .before .before .before .before .before .before .pre .1 .2 in
     let w = reply-done (c .before .before .before .before .before .before .before .before .before .before .before .before .before .before .before .before .before .before .before .before .before .before .before .before .before .before .before .before .before .before .emit-expr .ensures) (c .before .before .before .before .before .before .before .before .before .before .before .before .before .before .before .before .before .before .before .before .before .before .l .given .1) in
     let z = tree-sized (a .link) (treeOf (a .tree .now) (a .i + 1)) (a .facts) (or-left v p .proper) w in
-    let e : c .noted-end .result ≡ endOf (a .tree .now) (a .i + 1) = c .noted-end .ensures ∙ v .noted .note (a .i + 1) (omega arith) (h₁ .within) .ends in
-    let d = c .before .before .before .before .before .before .before .before .before .before .before .before .otherwise .ensures .ended (w .code .block) (a .insns .now) (a .success .now) (a .failure .now) (a .p) (w .made .grew) refl (omega arith) (omega arith) in
+    let e : c .noted-end .result ≡ endOf (a .tree .now) (a .i + 1) = c .noted-end .ensures ∙ v .joined .noted (many p) .note (a .i + 1) (omega arith) (h₁ .within) .ends in
+    let d = c .before .before .before .before .before .before .before .before .before .before .before .before .otherwise .ensures .ended (w .code .block) (a .insns .now) (a .success .now) (a .failure .now) (a .p) (w .made .grew) refl (omega arith) in
     let y = other-sized (weight (treeOf (a .tree .now) (a .i + 1))) (w .code .block) (tree-length (a .link) (treeOf (a .tree .now) (a .i + 1)) (a .facts) (or-left v p .proper) w) (ended-grew d (c .before .before .before .before .before .if1 .taken)) in
     rw e (omega (arith, c .before .before .before .before .before .before .before .before .before .before .before .before .before .before .before .before .before .before .before .before .before .before .before .before .before .before .before .before .before .before .before .before .before .before .before .before .before .before .before .pre .0, h₁), (or-right v p, omega (arith, c .before .before .before .before .before .before .before .before .before .before .before .before .before .before .before .before .before .before .before .before .before .before .before .before .before .before .before .before .before .before .emit-expr .kept, c .before .before .before .before .before .before .before .before .before .before .before .before .otherwise .kept)))
 
@@ -469,8 +469,8 @@ emit-arms-returns t c = let a = c .before .before .before .before .before .befor
     let m = c .before .before .before .before .before .before .before .before .before .before .before .before .before .before .before .before .before .before .before .before .before .before .before .before .before .before .before .before .before .before .before .before .before .before .before .before .before .before .before .before .before .before .before .before .before .before .pre .1 .2 in
     let w = reply-done (c .before .before .before .before .before .before .before .before .before .before .before .before .before .before .before .before .before .before .before .before .before .before .before .before .before .before .before .before .before .before .before .before .before .before .before .before .before .emit-expr .ensures) (c .before .before .before .before .before .before .before .before .before .before .before .before .before .before .before .before .before .before .before .before .before .before .before .before .before .before .before .before .before .l .given .1) in
     let z = tree-sized (a .link) (treeOf (a .tree .now) (a .i + 1)) (a .facts) (or-left v p .proper) w in
-    let e : c .before .before .before .before .before .before .before .noted-end .result ≡ endOf (a .tree .now) (a .i + 1) = c .before .before .before .before .before .before .before .noted-end .ensures ∙ v .noted .note (a .i + 1) (omega arith) (h₁ .within) .ends in
-    let d = c .before .before .before .before .before .before .before .before .before .before .before .before .before .before .before .before .before .before .before .otherwise .ensures .ended (w .code .block) (a .insns .now) (a .success .now) (a .failure .now) (a .p) (w .made .grew) refl (omega arith) (omega arith) in
+    let e : c .before .before .before .before .before .before .before .noted-end .result ≡ endOf (a .tree .now) (a .i + 1) = c .before .before .before .before .before .before .before .noted-end .ensures ∙ v .joined .noted (many p) .note (a .i + 1) (omega arith) (h₁ .within) .ends in
+    let d = c .before .before .before .before .before .before .before .before .before .before .before .before .before .before .before .before .before .before .before .otherwise .ensures .ended (w .code .block) (a .insns .now) (a .success .now) (a .failure .now) (a .p) (w .made .grew) refl (omega arith) in
     arms-done (a .link) (treeOf (a .tree .now) (a .i + 1)) (treeOf (a .tree .now) (endOf (a .tree .now) (a .i + 1))) (a .facts) w d (c .before .before .before .before .before .before .before .before .before .before .before .before .if1 .taken) (c .before .before .before .before .before .before .before .before .before .before .before .before .before .before .before .before .before .before .before .before .before .before .before .restored .result) (c .before .before .before .before .before .before .before .before .before .before .before .before .before .before .before .before .before .before .before .before .before .before .before .restored .ensures) (rw e at (c .before .before .before .before .before .before .emit-right .ensures))
 
 emit-arms-returns-2 : (t : ℕ) → emit-arms-lts.Need-returns-2 (
@@ -549,7 +549,7 @@ emit-arms-returns-3 t c = let a = c .before .before .before .before .before .bef
     let m = c .before .before .before .before .before .before .before .before .before .before .before .before .before .before .before .before .before .before .before .before .before .before .before .before .before .before .before .before .before .before .before .before .before .before .pre .1 .2 in
     let w = reply-done (c .before .before .before .before .before .before .before .before .before .before .before .before .before .before .before .before .before .before .before .before .before .before .before .before .before .emit-expr .ensures) (c .before .before .before .before .before .before .before .before .before .before .before .before .before .before .before .before .before .l .given .1) in
     let z = tree-sized (a .link) (treeOf (a .tree .now) (a .i + 1)) (a .facts) (or-left v p .proper) w in
-    let d = c .before .before .before .before .before .before .before .otherwise .ensures .ended (w .code .block) (a .insns .now) (a .success .now) (a .failure .now) (a .p) (w .made .grew) refl (omega arith) (omega arith) in
+    let d = c .before .before .before .before .before .before .before .otherwise .ensures .ended (w .code .block) (a .insns .now) (a .success .now) (a .failure .now) (a .p) (w .made .grew) refl (omega arith) in
     arms-far (a .link) (treeOf (a .tree .now) (a .i + 1)) (treeOf (a .tree .now) (endOf (a .tree .now) (a .i + 1))) (a .facts) w d (c .if1 .left)
 
 emit-expr-byte-at-requires : (t : ℕ) → emit-expr-lts.Need-byte-at-requires (
@@ -771,7 +771,7 @@ emit-not-returns t c = let a = c .before .before .before .before .before .before
     let w = reply-done (c .before .before .before .before .before .before .before .before .before .before .before .before .before .before .before .before .before .before .before .before .before .before .before .before .before .emit-expr .ensures) (c .before .before .before .before .before .before .before .before .before .before .before .before .before .before .before .before .before .e .given .1) in
     let z = tree-sized (a .link) (treeOf (a .tree .now) (a .i + 1)) (a .facts) (not-part v p .proper) w in
     let t = ap weight (p .tree) in
-    let d = c .before .before .before .before .before .before .before .before .otherwise .ensures .ended (w .code .block) (a .insns .now) (a .failure .now) (a .success .now) (swapped (a .p)) (w .made .grew) refl (omega arith) (omega arith) in
+    let d = c .before .before .before .before .before .before .before .before .otherwise .ensures .ended (w .code .block) (a .insns .now) (a .failure .now) (a .success .now) (swapped (a .p)) (w .made .grew) refl (omega arith) in
     rw (p .tree) (not-done (a .link) (treeOf (a .tree .now) (a .i + 1)) (a .facts) w d (c .before .if1 .taken) (c .before .before .before .before .before .before .before .before .before .before .before .before .restored .result) (c .before .before .before .before .before .before .before .before .before .before .before .before .restored .ensures))
 
 emit-not-returns-2 : (t : ℕ) → emit-not-lts.Need-returns-2 (
@@ -832,7 +832,7 @@ emit-not-returns-3 t c = let a = c .before .before .before .before .before .befo
     let w = reply-done (c .before .before .before .before .before .before .before .before .before .before .before .before .before .before .before .before .before .before .before .before .before .before .before .before .emit-expr .ensures) (c .before .before .before .before .before .before .before .before .before .before .before .before .before .before .before .before .e .given .1) in
     let z = tree-sized (a .link) (treeOf (a .tree .now) (a .i + 1)) (a .facts) (not-part v p .proper) w in
     let t = ap weight (p .tree) in
-    let d = c .before .before .before .before .before .before .before .otherwise .ensures .ended (w .code .block) (a .insns .now) (a .failure .now) (a .success .now) (swapped (a .p)) (w .made .grew) refl (omega arith) (omega arith) in
+    let d = c .before .before .before .before .before .before .before .otherwise .ensures .ended (w .code .block) (a .insns .now) (a .failure .now) (a .success .now) (swapped (a .p)) (w .made .grew) refl (omega arith) in
     rw (p .tree) (not-far (a .link) (treeOf (a .tree .now) (a .i + 1)) (a .facts) w d (c .if1 .left))
 
 emit-or-noted-guards-requires : (t : ℕ) → emit-or-lts.Need-noted-guards-requires (
@@ -849,7 +849,7 @@ emit-or-noted-guards-requires t c κs = let a = c .before .before .before .befor
     let h = v .here in
     let h₁ = p .left in
     let m = c .before .before .before .before .before .pre .1 .2 in
-    readable (treeOf (a .tree .now) (a .i)) (v .noted .note (a .i) (omega arith) (h .within)) (v .proper) (omega arith) (let l = v .long in omega arith)
+    readable (treeOf (a .tree .now) (a .i)) (v .joined .noted (many p) .note (a .i) (omega arith) (h .within)) (v .proper) (omega arith) (let l = v .joined .long (many p) in omega arith)
 
 emit-or-emit-or-hoist-requires : (t : ℕ) → emit-or-lts.Need-emit-or-hoist-requires (
   noted-guards-reads.Asked,
@@ -882,7 +882,7 @@ emit-or-emit-arms-requires t c κs = let a = c .before .before .before .before .
     let h = v .here in
     let h₁ = p .left in
     let m = c .before .before .before .before .before .before .before .before .before .before .before .before .before .before .before .before .before .before .before .before .before .pre .1 .2 in
-    let n = v .noted .note (a .i) (omega arith) (h .within) in
+    let n = v .joined .noted (many p) .note (a .i) (omega arith) (h .within) in
     let r = note-same (c .before .before .before .before .before .before .before .before .before .before .before .before .before .before .before .noted-guards .ensures) n in
     let w = rw (r, p .tree) at (reply-done (c .before .before .before .before .before .before .before .before .before .before .before .before .emit-or-hoist .ensures .reply (a .success .now)) (c .before .before .before .before .before .before .h .given .1)) in
     let z = hoist-sized (a .link) (Or (treeOf (a .tree .now) (a .i + 1)) (treeOf (a .tree .now) (endOf (a .tree .now) (a .i + 1)))) (a .facts) (rw (p .tree) at (v .proper)) w in
@@ -903,7 +903,7 @@ emit-or-returns t c = let a = c .before .before .before .before .before .before 
     let h = v .here in
     let h₁ = p .left in
     let m = c .before .before .before .before .before .before .before .before .before .before .before .before .before .before .before .before .pre .1 .2 in
-    let n = v .noted .note (a .i) (omega arith) (h .within) in
+    let n = v .joined .noted (many p) .note (a .i) (omega arith) (h .within) in
     let r = note-same (c .before .before .before .before .before .before .before .before .before .before .noted-guards .ensures) n in
     rw (p .tree) (or-refused (a .link) (treeOf (a .tree .now) (a .i + 1)) (treeOf (a .tree .now) (endOf (a .tree .now) (a .i + 1))) (a .facts) (rw (r, p .tree) at (reply-refused (c .before .before .before .before .before .before .before .emit-or-hoist .ensures .reply (a .success .now)) (c .before .r .given .1))))
 
@@ -921,7 +921,7 @@ emit-or-returns-2 t c = let a = c .before .before .before .before .before .befor
     let h = v .here in
     let h₁ = p .left in
     let m = c .before .before .before .before .before .before .before .before .before .before .before .before .before .before .before .before .before .before .before .before .before .before .before .before .before .before .before .before .pre .1 .2 in
-    let n = v .noted .note (a .i) (omega arith) (h .within) in
+    let n = v .joined .noted (many p) .note (a .i) (omega arith) (h .within) in
     let r = note-same (c .before .before .before .before .before .before .before .before .before .before .before .before .before .before .before .before .before .before .before .before .before .before .noted-guards .ensures) n in
     let w = rw (r, p .tree) at (reply-done (c .before .before .before .before .before .before .before .before .before .before .before .before .before .before .before .before .before .before .before .emit-or-hoist .ensures .reply (a .success .now)) (c .before .before .before .before .before .before .before .before .before .before .before .before .before .h .given .1)) in
     rw (p .tree) (or-done (a .link) (treeOf (a .tree .now) (a .i + 1)) (treeOf (a .tree .now) (endOf (a .tree .now) (a .i + 1))) (a .facts) w (c .before .before .before .before .before .before .emit-arms .ensures))

@@ -31,7 +31,7 @@ check-net6-requires-6 c κs = let a = c .before .before .before .before .before 
     let p = c .before .before .before .before .before .before .before .before .before .before .before .before .before .before .before .before .before .before .before .before .before .before .before .before .before .pre in
     let q = c .before .before .before .before .before .before .before .before .before .before .before .before .before .before .before .before .before .before .before .before .before .before .before .before .before .good in
     let n : length (a .net .masks) ≡ 8 = search needs in
-    let z = tried 17 (tests-short (a .net .masks) (a .net .expected) (a .src) n) (omega arith) (c .before .before .before .before .before .before .before .before .before .before .before .before .before .before .before .before .before .check-net65 .ensures) (c .before .before .before .before .before .before .before .before .before .otherwise .ensures) refl (omega arith) (omega arith) .size in
+    let z = tried 17 (tests-short (a .net .masks) (a .net .expected) (a .src) n) (omega arith) (c .before .before .before .before .before .before .before .before .before .before .before .before .before .before .before .before .before .check-net65 .ensures) (c .before .before .before .before .before .before .before .before .before .otherwise .ensures) refl (omega arith) .size in
     omega (arith, c .before .before .before .before .before .before .before .before .before .before .before .before .before .before .before .before .before .check-net65 .kept, c .before .before .before .before .before .before .before .before .before .otherwise .kept)
 
 returns : tie.Need-returns
@@ -52,7 +52,7 @@ returns-4 c = let a = c .before .before .before .before .before .before .before 
     let p = c .before .before .before .before .before .before .before .before .before .before .before .before .before .before .before .before .before .before .before .before .before .before .before .before .before .before .before .before .before .before .pre in
     let q = c .before .before .before .before .before .before .before .before .before .before .before .before .before .before .before .before .before .before .before .before .before .before .before .before .before .before .before .before .before .before .good in
     let n : length (a .net .masks) ≡ 8 = search needs in
-    let z = tried 17 (tests-short (a .net .masks) (a .net .expected) (a .src) n) (omega arith) (c .before .before .before .before .before .before .before .before .before .before .before .before .before .before .before .before .before .before .before .before .before .before .check-net65 .ensures) (c .before .before .before .before .before .before .before .before .before .before .before .before .before .before .otherwise .ensures) refl (omega arith) (omega arith) in
+    let z = tried 17 (tests-short (a .net .masks) (a .net .expected) (a .src) n) (omega arith) (c .before .before .before .before .before .before .before .before .before .before .before .before .before .before .before .before .before .before .before .before .before .before .check-net65 .ensures) (c .before .before .before .before .before .before .before .before .before .before .before .before .before .before .otherwise .ensures) refl (omega arith) in
     rw (c .before .before .before .before .before .before .before .before .before .before .before .before .before .before .before .before .before .before .before .before .before .before .before .before .before .enum-told4 .given .1) (then (z .grew) (c .before .before .before .before .check-net66 .ensures .grew _))
 
 pub check-net6-sides-spec : {M : Type 1} → statement M

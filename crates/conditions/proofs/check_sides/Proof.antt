@@ -25,7 +25,7 @@ otherwise-requires c κs = let a = c .before .before .before .before .before .be
 check-shape-requires-6 : tie.Need-check-shape-requires-6
 check-shape-requires-6 c κs = let a = c .before .before .before .before .before .before .before .before .before .before .before .before .before .before .before .before .before .before .before .before .before .before .before .before .before .args in
     let p = c .before .before .before .before .before .before .before .before .before .before .before .before .before .before .before .before .before .before .before .before .before .before .before .before .before .pre in
-    let z = tried (most (a .shape)) (tested-size (a .shape) (a .src)) (most-small (a .shape)) (c .before .before .before .before .before .before .before .before .before .before .before .before .before .before .before .before .before .check-shape5 .ensures) (c .before .before .before .before .before .before .before .before .before .otherwise .ensures) refl (omega arith) (omega arith) .size in
+    let z = tried (most (a .shape)) (tested-size (a .shape) (a .src)) (most-small (a .shape)) (c .before .before .before .before .before .before .before .before .before .before .before .before .before .before .before .before .before .check-shape5 .ensures) (c .before .before .before .before .before .before .before .before .before .otherwise .ensures) refl (omega arith) .size in
     omega (arith, c .before .before .before .before .before .before .before .before .before .before .before .before .before .before .before .before .before .check-shape5 .kept, c .before .before .before .before .before .before .before .before .before .otherwise .kept)
 
 returns : tie.Need-returns
@@ -44,7 +44,7 @@ returns-4 : tie.Need-returns-4
 unfolding checkBlocks
 returns-4 c = let a = c .before .before .before .before .before .before .before .before .before .before .before .before .before .before .before .before .before .before .before .before .before .before .before .before .before .before .before .before .before .before .args in
     let p = c .before .before .before .before .before .before .before .before .before .before .before .before .before .before .before .before .before .before .before .before .before .before .before .before .before .before .before .before .before .before .pre in
-    let z = tried (most (a .shape)) (tested-size (a .shape) (a .src)) (most-small (a .shape)) (c .before .before .before .before .before .before .before .before .before .before .before .before .before .before .before .before .before .before .before .before .before .before .check-shape5 .ensures) (c .before .before .before .before .before .before .before .before .before .before .before .before .before .before .otherwise .ensures) refl (omega arith) (omega arith) in
+    let z = tried (most (a .shape)) (tested-size (a .shape) (a .src)) (most-small (a .shape)) (c .before .before .before .before .before .before .before .before .before .before .before .before .before .before .before .before .before .before .before .before .before .before .check-shape5 .ensures) (c .before .before .before .before .before .before .before .before .before .before .before .before .before .before .otherwise .ensures) refl (omega arith) in
     rw (c .before .before .before .before .before .before .before .before .before .before .before .before .before .before .before .before .before .before .before .before .before .before .before .before .before .enum-told4 .given .1) (then (z .grew) (c .before .before .before .before .check-shape6 .ensures .grew _))
 
 pub check-sides-spec : {M : Type 1} → statement M

@@ -6,15 +6,14 @@ use Rattle.emit.proofs.ja_success.Statement.{statement}
 use Rattle.emit.proofs.ja_success.Tie as tie
 
 returns : tie.Need-returns
-returns c = put-success (λ N. one-success _ _ N _ _ _ _ (omega arith) (c .line .ensures) (plus-none _) refl (omega arith) refl refl)
+returns c = rw (c .before .before .put-line .ensures) (put-success (λ N. one-success _ _ N _ _ _ _ (c .before .before .before .line .ensures) (plus-none _) refl (omega arith) refl refl))
 
 pub ja-success-spec : {M : Type 1} → statement M
 ja-success-spec =
     tie.close
     (tie.spec
     (λ c κs. search needs)
-    (λ c. search needs)
-    (λ c. search needs)
+    (λ c κs. search needs)
     (λ c. search needs)
     (λ c. search needs)
     (λ c. search needs)

@@ -13,12 +13,11 @@ resolve-all-requires c κs =
     let j = c .before .before .before .before .before .before .ja-success .ensures in (
       omega arith,
       omega arith,
-      omega (arith, c .before .before .before .before .before .before .ja-success .kept),
       below-more (a .p .insns) (c .before .before .before .before .before .before .ja-success .result .insns) (slice (a .mark) (a .p .failure) (a .failure .now)) (omega arith) (p .3),
     )
 
 returns : tie.Need-returns
-returns c = record { ended = λ B I₀ Y₀ N₀ s₀ g e hI hN. otherwise-ended _ g (c .before .before .before .before .before .before .before .before .before .ja-success .ensures) e hI hN (c .before .before .resolve-all .last .0) (c .before .before .resolve-all .result) (c .before .before .resolve-all .ensures) }
+returns c = record { ended = λ B I₀ Y₀ N₀ s₀ g e hN. otherwise-ended _ g (c .before .before .before .before .before .before .before .before .before .ja-success .ensures) e hN (c .before .before .resolve-all .last .0) (c .before .before .resolve-all .result) (c .before .before .resolve-all .ensures) }
 
 pub otherwise-spec : {M : Type 1} → statement M
 otherwise-spec =

@@ -28,7 +28,7 @@ step c =
     below-step (a .stack .now) (c .before .loop .i) (a .to) (c .loop-test .taken) (omega arith) (a .target) (c .before .loop .inv .2)
 
 loop-holds : tie.Need-loop-holds Inv-loop μ-loop
-loop-holds c = (c .before .before .pre .0, refl, c .before .before .pre .3, refl)
+loop-holds c = (c .before .before .pre .0, refl, c .before .before .pre .2, refl)
 
 cast-place : tie.Need-cast-place Inv-loop μ-loop
 cast-place c = omega (arith, c .shared-slice-known2 .given (c .before .before .loop .i))
@@ -47,27 +47,15 @@ returns c =
     (sym (sym (l .loop .inv .3) ∙ resolve-far (a .stack .now) (l .loop .i) (a .to) (c .before .before .loop-test .taken) (omega arith) (a .target) (l .loop .insns) (c .if1 .taken)))
     refl
 
-mul-with-distance : tie.Need-mul-with-distance Inv-loop μ-loop
-mul-with-distance c = omega (arith, step (c .before .before) .0)
-
-slice-read-with-distance : tie.Need-slice-read-with-distance Inv-loop μ-loop
-slice-read-with-distance c = omega (arith, step (c .before .before .before) .0)
-
-mul-insns : tie.Need-mul-insns Inv-loop μ-loop
-mul-insns c = omega (arith, step (c .before .before .before .before) .0)
-
-slice-write-insns : tie.Need-slice-write-insns Inv-loop μ-loop
-slice-write-insns c = omega (arith, step (c .before .before .before .before) .0)
-
 loop-again : tie.Need-loop-again Inv-loop μ-loop
 loop-again c =
-    let l = c .before .before .before .before .before in
-    let a = c .before .before .before .before .before .before .before .before .args in (
+    let l = c .before .before .before .before .before .before .before in
+    let a = c .before .before .before .before .before .before .before .before .before .before .args in (
       omega arith,
-      simp length-set (l .loop .inv .1),
-      step (c .before .before .before .before) .1,
-      rw (c .with-distance .ensures)
-          (resolve-step (a .stack .now) (l .loop .i) (a .to) (c .before .before .before .before .loop-test .taken) (omega arith) (a .target) (l .loop .insns) (c .before .before .if1 .left) ∙ l .loop .inv .3),
+      rw (c .before .before .resolve-line .ensures) (simp length-set (l .loop .inv .1)),
+      step (c .before .before .before .before .before .before) .1,
+      rw (c .before .before .resolve-line .ensures)
+          (resolve-step (a .stack .now) (l .loop .i) (a .to) (c .before .before .before .before .before .before .loop-test .taken) (omega arith) (a .target) (l .loop .insns) (c .before .before .before .before .if1 .left) ∙ l .loop .inv .3),
     )
 
 returns-2 : tie.Need-returns-2 Inv-loop μ-loop
@@ -92,11 +80,7 @@ resolve-all-spec =
     sub-d-2
     (λ c. search needs)
     returns
-    mul-with-distance
-    slice-read-with-distance
     (λ c κs. search needs)
-    mul-insns
-    slice-write-insns
     (λ c. search needs)
     (λ c. search needs)
     loop-again

@@ -9,21 +9,20 @@ use Rattle.emit.proofs.test_failure.Statement.{statement}
 use Rattle.emit.proofs.test_failure.Tie as tie
 
 line-requires : tie.Need-line-requires
-line-requires c κs = omega (arith, field-small (slotOf (c .before .before .args .field)))
+line-requires c κs = omega (arith, field-small (slotOf (c .before .before .before .args .field)))
 
 returns : tie.Need-returns
 returns c =
-    let a = c .before .before .before .args in
-    let p = c .before .before .before .pre in
-    put-failure (λ Y. one-failure _ Y _ _ _ _ _ (omega arith) (packs-test (testOf (a .code)) (slotOf (a .field)) failure _ _ _ _ (p .1) (p .2) (c .line .ensures)) (plus-none _) refl (omega arith) refl refl)
+    let a = c .before .before .before .before .before .before .before .args in
+    let p = c .before .before .before .before .before .before .before .pre in
+    rw (c .before .before .put-line .ensures) (put-failure (λ Y. one-failure _ Y _ _ _ _ _ (packs-test (testOf (a .code)) (slotOf (a .field)) failure _ _ _ _ (p .1) (p .2) (c .before .before .before .line .ensures)) (plus-none _) refl (omega arith) refl refl))
 
 pub test-failure-spec : {M : Type 1} → statement M
 test-failure-spec =
     tie.close
     (tie.spec
     line-requires
-    (λ c. search needs)
-    (λ c. search needs)
+    (λ c κs. search needs)
     (λ c. search needs)
     (λ c. search needs)
     (λ c. search needs)
