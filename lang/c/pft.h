@@ -13,13 +13,14 @@
  * write tree files, are tested and not proved.
  *
  * Slices. Every slice is a pointer and the number of its bytes; no alignment is asked.
- *   - The bytes must be readable (for `program` of pft_build and pft_count and `tree` of pft_type
- *     writable) during the call, and nothing else may write them. No other byte is read or written.
+ *   - The bytes must be readable (for `program` of pft_build, pft_load and pft_count and `tree` of
+ *     pft_type writable) during the call, and nothing else may write them. No other byte is read or
+ *     written.
  *   - A slice of 0 bytes may have any pointer, NULL too. NULL with another length is an error of
  *     the caller's, which no function tests.
- *   - `program` of pft_build and of pft_count must not overlap their other slices, nor `tree` of
- *     pft_type its text. All others, those of pft_run, `tree` and `capture` of pft_count and so on,
- *     may overlap.
+ *   - `program` of pft_build, pft_load and pft_count must not overlap their other slices, nor `tree`
+ *     of pft_type its text. All others, those of pft_run, `tree` and `capture` of pft_count and so
+ *     on, may overlap.
  *
  * Answers are one number, which functions below take apart.
  */
@@ -35,7 +36,7 @@ extern "C" {
 #endif
 
 /* The version of libpft.a that this header is for. Each addition to the interface raises it by one. */
-#define PFT_VERSION 4
+#define PFT_VERSION 5
 
 /* Why a call is refused. Later versions add numbers. */
 enum pft_refusal {
@@ -56,7 +57,8 @@ enum pft_refusal {
     PFT_COOKED_ADDRESS = 15, /* LinuxSll with kind 17 and a direction other than 1, or with kind 19 */
     PFT_UNKNOWN_WORD = 16,   /* a typed word that is none, and no address or port number either */
     PFT_UNFINISHED = 17,     /* a typed word that can't follow, or the line's end where more has to */
-    PFT_TOO_LARGE = 18       /* a typed line of over 128 records, or with over 128 brackets open at once */
+    PFT_TOO_LARGE = 18,      /* a typed line of over 128 records, or with over 128 brackets open at once */
+    PFT_COUNT_MOVED = 19     /* a load of another count than the tree has */
 };
 
 /* How a run ends. */
@@ -81,9 +83,9 @@ enum pft_verdict {
 #define PFT_FRAME_HEADER_SIZE ((size_t)16)
 
 /*
- * The stack that a call may take, in bytes. Measured: a build 56,700 for one record and 139,800
- * for 127 nots over one, which is the deepest tree, a count 200 more than its build; a direct
- * reading 24,700; a typed line 3,300, whatever it is; a run or a frame below 600.
+ * The stack that a call may take, in bytes. Measured: a build, a question, a load or a count 54,600
+ * for one record and 139,900 for 127 nots over one, which is the deepest tree; a direct reading
+ * 24,700; a typed line 3,300, whatever it is; a run or a frame below 600.
  */
 #define PFT_STACK ((size_t)262144)
 
@@ -107,6 +109,28 @@ static inline int pft_serves(void)
  * Answer: refusal x 65,536 + count.
  */
 uint32_t pft_build(const uint8_t *tree, size_t tree_length, uint8_t *program, size_t program_length);
+
+/*
+ * Tells how many instructions the program of a tree file has, so that room for it is reserved before
+ * it is loaded. No buffer is lent and none is written.
+ *
+ * Answer: refusal x 65,536 + count, as of a pft_build with enough room. Refused with 1 to 8 or 15,
+ * never with PFT_SHORT_BUFFER or PFT_COUNT_MOVED.
+ */
+uint32_t pft_question(const uint8_t *tree, size_t tree_length);
+
+/*
+ * Makes the program of a tree file that still has a count of instructions. The tree is taken as it
+ * is now: one that was edited to another program of the same count is loaded so. Where it has the
+ * count, answer and bytes are those of pft_build. The count is compared in all 32 bits.
+ *
+ * `count` may be an answer of pft_question: where that is not refused it is the count itself, and
+ * where it is refused no tree has such a count.
+ *
+ * Answer: refusal x 65,536 + count. Refused with 1 to 8 or 15, then with PFT_COUNT_MOVED, then with
+ * PFT_SHORT_BUFFER; each sets all of `program` to zero.
+ */
+uint32_t pft_load(const uint8_t *tree, size_t tree_length, uint32_t count, uint8_t *program, size_t program_length);
 
 /*
  * Runs a program, of pft_build or any other, over a frame. The program is the 8 x count bytes
@@ -172,15 +196,22 @@ uint64_t pft_type(uint8_t link, const uint8_t *text, size_t text_length, uint8_t
 
 /* ---- answers taken apart; a refusal is 0 where there is none */
 
+/* Of pft_build, pft_question or pft_load. */
 static inline unsigned pft_build_refusal(uint32_t answer)
 {
     return (unsigned)(answer >> 16);
 }
 
-/* The instructions; 0 for a refused build. */
+/* The instructions, of the same three; 0 where they refuse. */
 static inline size_t pft_build_count(uint32_t answer)
 {
     return answer & 0xffffu;
+}
+
+/* The bytes of the instructions: the room to reserve, and the length of the program to run. */
+static inline size_t pft_build_bytes(uint32_t answer)
+{
+    return 8 * pft_build_count(answer);
 }
 
 static inline unsigned pft_run_refusal(uint32_t answer)
@@ -274,6 +305,7 @@ static inline const char *pft_refusal_word(unsigned refusal)
     case PFT_UNKNOWN_WORD: return "unknown word";
     case PFT_UNFINISHED: return "unfinished";
     case PFT_TOO_LARGE: return "too large";
+    case PFT_COUNT_MOVED: return "count moved";
     default: return "unknown refusal";
     }
 }

@@ -1,7 +1,7 @@
 /*
  * A stand-in for libpft.a of another version, which refuses every call with a number that has no
  * word. Without VERSION it is an archive from before there was one; that of version 1 knows no
- * captures, and those of 1 to 3 type no lines.
+ * captures, those of 1 to 3 type no lines, and those of 1 to 4 answer no question.
  */
 #include "pft.h"
 
@@ -52,5 +52,19 @@ uint64_t pft_type(uint8_t link, const uint8_t *text, size_t text_length, uint8_t
 {
     (void)link, (void)text, (void)text_length, (void)tree;
     return (uint64_t)REFUSAL << 32;
+}
+#endif
+
+#if !defined VERSION || VERSION < 1 || VERSION > 4
+uint32_t pft_question(const uint8_t *tree, size_t tree_length)
+{
+    (void)tree, (void)tree_length;
+    return REFUSAL << 16;
+}
+
+uint32_t pft_load(const uint8_t *tree, size_t tree_length, uint32_t count, uint8_t *program, size_t program_length)
+{
+    (void)tree, (void)tree_length, (void)count, (void)program, (void)program_length;
+    return REFUSAL << 16;
 }
 #endif

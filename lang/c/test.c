@@ -243,6 +243,10 @@ static void no_bytes(void)
         TEST(pft_build(none, 0, buffer, 16) == 1u << 16 && all_are(buffer, 16, 0));
         TEST(pft_build(none, 0, none, 0) == 1u << 16);
         TEST(pft_build(f.bytes, f.length, none, 0) == 9u << 16);
+        TEST(pft_question(none, 0) == 1u << 16);
+        TEST(pft_load(none, 0, 2, none, 0) == 1u << 16);
+        TEST(pft_load(f.bytes, f.length, 3, none, 0) == 19u << 16);
+        TEST(pft_load(f.bytes, f.length, 2, none, 0) == 9u << 16);
         TEST(pft_build(f.bytes, f.length, buffer, 16) == 2);
         TEST(pft_run(buffer, 16, none, 0) == 65536 + 1);
         TEST(pft_run(none, 0, none, 0) == (256u + 11) << 16);
@@ -278,7 +282,7 @@ static void shared_slices(void)
 static uint8_t capture[24 + 16 + 128] = {0xa1, 0xb2, 0xc3, 0xd4};
 
 static struct file deep;
-static uint32_t deep_answers[3];
+static uint32_t deep_answers[5];
 static uint64_t deep_count;
 static ucontext_t here, there;
 
@@ -287,6 +291,8 @@ static void deep_calls(void)
     deep_answers[0] = pft_build(deep.bytes, deep.length, buffer, PFT_PROGRAM_MAX);
     deep_answers[1] = pft_run(buffer, 8 * pft_build_count(deep_answers[0]), frame, 128);
     deep_answers[2] = pft_direct(deep.bytes, deep.length, frame, 128);
+    deep_answers[3] = pft_question(deep.bytes, deep.length);
+    deep_answers[4] = pft_load(deep.bytes, deep.length, deep_answers[3], buffer, PFT_PROGRAM_MAX);
     deep_count = pft_count(deep.bytes, deep.length, buffer, PFT_PROGRAM_MAX, capture, sizeof capture);
 }
 
@@ -306,6 +312,7 @@ static void on_small_stack(uint8_t *stack, uint8_t kind, uint8_t protocol)
     TEST(swapcontext(&here, &there) == 0);
     TEST(pft_build_refusal(deep_answers[0]) == 0 && pft_build_count(deep_answers[0]) > 127);
     TEST(pft_run_verdict(deep_answers[1]) == (deep_answers[2] ? PFT_ACCEPTED : PFT_DROPPED));
+    TEST(deep_answers[3] == deep_answers[0] && deep_answers[4] == deep_answers[0]);
     TEST(deep_count == deep_answers[2]);
 }
 
@@ -330,7 +337,7 @@ static void words(void)
     TEST(strcmp(pft_verdict_word(0), "no verdict") == 0);
     TEST(strcmp(pft_verdict_word(5), "unknown verdict") == 0);
     TEST(strcmp(pft_refusal_word(0), "not refused") == 0);
-    TEST(strcmp(pft_refusal_word(19), "unknown refusal") == 0);
+    TEST(strcmp(pft_refusal_word(20), "unknown refusal") == 0);
     TEST(strcmp(pft_refusal_word(65535), "unknown refusal") == 0);
 }
 

@@ -4,7 +4,14 @@
 use std::path::{Path, PathBuf};
 
 /// What earlier archives lack, in the order in which it came.
-const ADDED: [&str; 4] = ["pft_version", "pft_count", "pft_frame", "pft_type"];
+const ADDED: [&str; 6] = [
+    "pft_version",
+    "pft_count",
+    "pft_frame",
+    "pft_type",
+    "pft_question",
+    "pft_load",
+];
 
 fn folder() -> PathBuf {
     match std::env::var_os("PFT_LIB_DIR") {

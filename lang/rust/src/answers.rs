@@ -2,7 +2,7 @@
 
 use core::fmt;
 
-use crate::MAX_TREE;
+use crate::{Size, MAX_TREE};
 
 /// The smallest tree file: 8 bytes and one record.
 const MIN_TREE: usize = 32;
@@ -50,6 +50,8 @@ pub enum Refusal {
     Unfinished = 17,
     /// 18: a typed line of over 128 records, or with over 128 brackets open at once.
     TooLarge = 18,
+    /// 19: a load of another count than the tree has.
+    CountMoved = 19,
 }
 
 impl Refusal {
@@ -73,6 +75,7 @@ impl Refusal {
         Refusal::UnknownWord,
         Refusal::Unfinished,
         Refusal::TooLarge,
+        Refusal::CountMoved,
     ];
 
     /// Its number.
@@ -109,6 +112,7 @@ impl Refusal {
             Refusal::UnknownWord => "unknown word",
             Refusal::Unfinished => "unfinished",
             Refusal::TooLarge => "too large",
+            Refusal::CountMoved => "count moved",
         }
     }
 }
@@ -323,6 +327,11 @@ pub(crate) fn built(answer: u32) -> Result<usize, Error> {
     }
 }
 
+/// The same, of a question.
+pub(crate) fn asked(answer: u32) -> Result<Size, Error> {
+    built(answer).map(|_| Size { count: answer })
+}
+
 /// Verdict × 65,536 + steps, or (256 + refusal) × 65,536.
 pub(crate) fn ran(answer: u32) -> Result<Outcome, Error> {
     match answer >> 16 {
@@ -399,6 +408,19 @@ mod tests {
         }
         for number in unknown(0xffff) {
             assert_eq!(built(number << 16), Err(Error::UnknownRefusal(number)));
+        }
+    }
+
+    #[test]
+    fn numbers_of_questions() {
+        for count in [2, 3_946, 0xffff] {
+            assert_eq!(asked(count), Ok(Size { count }));
+        }
+        for &refusal in Refusal::ALL {
+            assert_eq!(asked(refusal.number() << 16), Err(refusal.into()));
+        }
+        for number in unknown(0xffff) {
+            assert_eq!(asked(number << 16), Err(Error::UnknownRefusal(number)));
         }
     }
 

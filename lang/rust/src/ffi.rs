@@ -11,6 +11,14 @@ mod c {
             program: *mut u8,
             program_length: usize,
         ) -> u32;
+        pub fn pft_question(tree: *const u8, tree_length: usize) -> u32;
+        pub fn pft_load(
+            tree: *const u8,
+            tree_length: usize,
+            count: u32,
+            program: *mut u8,
+            program_length: usize,
+        ) -> u32;
         pub fn pft_run(
             program: *const u8,
             program_length: usize,
@@ -44,6 +52,26 @@ pub fn build(tree: &[u8], program: &mut [u8]) -> u32 {
         c::pft_build(
             tree.as_ptr(),
             tree.len(),
+            program.as_mut_ptr(),
+            program.len(),
+        )
+    }
+}
+
+pub fn question(tree: &[u8]) -> u32 {
+    // SAFETY: pointer and length are those of a slice which lives through the call; the function
+    // writes and keeps nothing.
+    unsafe { c::pft_question(tree.as_ptr(), tree.len()) }
+}
+
+pub fn load(tree: &[u8], count: u32, program: &mut [u8]) -> u32 {
+    // SAFETY: each pointer and length is that of a slice which lives through the call, `program`
+    // is lent mutably and so overlaps nothing, and the function keeps neither and takes any count.
+    unsafe {
+        c::pft_load(
+            tree.as_ptr(),
+            tree.len(),
+            count,
             program.as_mut_ptr(),
             program.len(),
         )

@@ -1,9 +1,11 @@
 //! Classic BPF programs made from trees of conditions, and their runs over frames and captures.
 //!
 //! A [`Tree`] holds conditions on a frame, joined by and, or and not; [`Tree::typed`] reads them from
-//! a line of text. [`Program::from_tree`] turns it into a program, [`Program::run`] runs that over a frame, and [`Tree::holds`] reads the tree
-//! on a frame without one. [`Tree::count`] tells how many frames of a classic pcap file the tree
-//! accepts, and [`frames`] gives them one by one.
+//! a line of text. [`Program::from_tree`] turns it into a program, [`Program::run`] runs that over a
+//! frame, and [`Tree::holds`] reads the tree on a frame without one. [`Tree::size`] tells how large
+//! the program is before room is reserved for it, and [`load`] writes it there if the tree still has
+//! that [`Size`]. [`Tree::count`] tells how many frames of a classic pcap file the tree accepts, and
+//! [`frames`] gives them one by one.
 //!
 //! ```
 //! use dabberpearl::conditions::*;
@@ -26,11 +28,11 @@
 //! # Ok::<(), dabberpearl::Error>(())
 //! ```
 //!
-//! [`type_line`], [`build`], [`run`], [`direct`] and [`count`] do the same with bytes of the caller's.
-//! All five are Rattle, proved equal to their definitions for all inputs, and linked from `libpft.a`;
-//! this crate is their safe face. What it adds, the making and taking apart of trees and answers, the
-//! step from a frame to the next, what could follow in a line and the calls themselves, is tested and
-//! not proved.
+//! [`type_line`], [`build`], [`question`], [`load`], [`run`], [`direct`] and [`count`] do the same with
+//! bytes of the caller's. All seven are Rattle, proved equal to their definitions for all inputs, and
+//! linked from `libpft.a`; this crate is their safe face. What it adds, the making and taking apart of
+//! trees and answers, the step from a frame to the next, what could follow in a line and the calls
+//! themselves, is tested and not proved.
 //!
 //! What is proved of an accepted tree, in short: its program has 2 to 3,946 instructions, all
 //! jumps lead forward, and a run takes no more steps than that. Where a run is not
@@ -48,8 +50,8 @@
 //! # Memory
 //!
 //! The crate takes `core` alone and no heap. A [`Tree`] has 3 KiB and a [`Program`] 31 KiB. A build
-//! takes up to 256 KiB of stack, whatever the thread, and so does a count; the other calls a tenth
-//! of that. Frames are pieces of the capture that was lent, and never copied.
+//! takes up to 256 KiB of stack, whatever the thread, and so do a question, a load and a count; the
+//! other calls a tenth of that. Frames are pieces of the capture that was lent, and never copied.
 
 #![no_std]
 #![deny(missing_docs, unsafe_code)]
@@ -62,6 +64,7 @@ pub mod conditions;
 mod ffi;
 mod program;
 mod record;
+mod size;
 mod terms;
 mod tree;
 mod typing;
@@ -71,6 +74,7 @@ pub use capture::Frames;
 pub use condition::Condition;
 pub use program::{Instruction, Instructions, Program};
 pub use record::Record;
+pub use size::Size;
 pub use terms::{Direction, Link, Mac, NoMac, Protocol};
 pub use tree::{Part, Records, Tree};
 pub use typing::TypeError;
@@ -82,7 +86,7 @@ struct Readme;
 
 /// The version of libpft.a that this crate is made for. Each addition to the interface raises it
 /// by one.
-pub const VERSION: u32 = 4;
+pub const VERSION: u32 = 5;
 
 /// The most records of a tree.
 pub const MAX_RECORDS: usize = 128;
@@ -108,9 +112,9 @@ pub fn archive_version() -> u32 {
 }
 
 /// Whether the libpft.a that is linked has all that this crate calls: its version is [`VERSION`]
-/// or a later one. [`Program::from_tree`], [`Tree::typed`], [`Tree::count`] and the reading of a
-/// [`Tree`] ask this; who calls [`type_line`], [`build`], [`run`], [`direct`], [`count`] or
-/// [`frames`] asks once.
+/// or a later one. [`Program::from_tree`], [`Program::load`], [`Tree::typed`], [`Tree::size`],
+/// [`Tree::count`] and the reading of a [`Tree`] ask this; who calls [`type_line`], [`build`],
+/// [`question`], [`load`], [`run`], [`direct`], [`count`] or [`frames`] asks once.
 ///
 /// # Errors
 ///
@@ -177,6 +181,53 @@ pub fn type_line(link: u8, line: &[u8], tree: &mut [u8; MAX_TREE]) -> Result<usi
 /// ```
 pub fn build(tree: &[u8], program: &mut [u8]) -> Result<usize, Error> {
     answers::built(ffi::build(tree, program))
+}
+
+/// Tells how large the program of a tree file is, so that room is reserved before it is loaded.
+/// Nothing is written. [`Tree::size`] asks of a [`Tree`].
+///
+/// # Errors
+///
+/// Refusals 1 to 8 and 15, as of [`build`]; never [`ShortBuffer`](Refusal::ShortBuffer) or
+/// [`CountMoved`](Refusal::CountMoved).
+///
+/// ```
+/// use dabberpearl::{conditions::*, question, Refusal, Tree};
+///
+/// let tree = Tree::ethernet(protocol(Ip))?;
+/// assert_eq!(question(tree.as_bytes())?.count(), 4);
+/// assert_eq!(question(b"no tree file"), Err(Refusal::StrangeFile.into()));
+/// # Ok::<(), dabberpearl::Error>(())
+/// ```
+pub fn question(tree: &[u8]) -> Result<Size, Error> {
+    answers::asked(ffi::question(tree))
+}
+
+/// Loads the program of a tree file that still has a size into a lent buffer, and answers the count
+/// of its instructions. The tree is taken as it is now, and the buffer is left as [`build`] leaves it.
+/// [`Size`] shows how a slot is reserved first; [`Program::load`] lends a buffer.
+///
+/// # Errors
+///
+/// Refusals 1 to 8 and 15, as of [`build`]; then [`CountMoved`](Refusal::CountMoved) where the tree
+/// has another count; then [`ShortBuffer`](Refusal::ShortBuffer). The whole buffer is zero after each.
+///
+/// ```
+/// use dabberpearl::{conditions::*, load, Refusal, Tree};
+///
+/// let tree = Tree::raw_ip(protocol(Ip))?;
+/// let size = tree.size()?;
+/// let mut buffer = [0xff; 40];
+/// assert_eq!(load(tree.as_bytes(), size, &mut buffer), Ok(2));
+/// assert_eq!(buffer[..8], [6, 0, 0, 0, 0xff, 0xff, 0xff, 0xff]);
+///
+/// let edited = Tree::raw_ip(protocol(Ip).not())?;
+/// assert_eq!(load(edited.as_bytes(), size, &mut buffer), Err(Refusal::CountMoved.into()));
+/// assert_eq!(buffer, [0; 40]);
+/// # Ok::<(), dabberpearl::Error>(())
+/// ```
+pub fn load(tree: &[u8], size: Size, program: &mut [u8]) -> Result<usize, Error> {
+    answers::built(ffi::load(tree, size.into(), program))
 }
 
 /// Runs a program over a frame. Any bytes may be run, those of a build or others.

@@ -4,16 +4,16 @@ use core::fmt;
 use core::iter::FusedIterator;
 use core::slice;
 
-use crate::{build, check_archive, run, Error, Outcome, Verdict, MAX_PROGRAM};
+use crate::{build, check_archive, load, run, Error, Outcome, Size, Verdict, MAX_PROGRAM};
 
 /// The bytes of an instruction.
-const INSTRUCTION: usize = 8;
+pub(crate) const INSTRUCTION: usize = 8;
 
 /// The program of an accepted tree.
 ///
 /// Its frames can only be refused as too long, and its runs are never broken. It needs no heap and
-/// is 31 KiB large whatever its length: best lent, or put into a `Box`. [`build`] takes a buffer of
-/// the caller's instead.
+/// is 31 KiB large whatever its length: best lent, or put into a `Box`. [`build`] and [`load`] take a
+/// buffer of the caller's instead.
 #[derive(Clone, PartialEq, Eq, Hash)]
 pub struct Program {
     /// The instructions, and zero after the last.
@@ -40,12 +40,40 @@ impl Program {
     /// # Ok::<(), dabberpearl::Error>(())
     /// ```
     pub fn from_tree<T: AsRef<[u8]> + ?Sized>(tree: &T) -> Result<Program, Error> {
+        Program::made(|bytes| build(tree.as_ref(), bytes))
+    }
+
+    /// Loads the program of a [`Tree`](crate::Tree), or of the bytes of a tree file, that still has
+    /// this size. The tree is taken as it is now.
+    ///
+    /// # Errors
+    ///
+    /// Those of [`from_tree`](Program::from_tree), then [`CountMoved`](crate::Refusal::CountMoved).
+    ///
+    /// ```
+    /// use dabberpearl::{conditions::*, Program, Refusal, Tree};
+    ///
+    /// let tcp = Tree::ethernet(protocol(Tcp))?;
+    /// let size = tcp.size()?;
+    /// assert_eq!(Program::load(&tcp, size), Program::from_tree(&tcp));
+    /// let udp = Tree::ethernet(protocol(Udp))?; // as many instructions
+    /// assert_eq!(Program::load(&udp, size), Program::from_tree(&udp));
+    /// let both = Tree::ethernet(protocol(Tcp).or(protocol(Udp)))?;
+    /// assert_eq!(Program::load(&both, size), Err(Refusal::CountMoved.into()));
+    /// # Ok::<(), dabberpearl::Error>(())
+    /// ```
+    pub fn load<T: AsRef<[u8]> + ?Sized>(tree: &T, size: Size) -> Result<Program, Error> {
+        Program::made(|bytes| load(tree.as_ref(), size, bytes))
+    }
+
+    /// The program that a call writes and whose count it answers.
+    fn made(call: impl FnOnce(&mut [u8]) -> Result<usize, Error>) -> Result<Program, Error> {
         check_archive()?;
         let mut program = Program {
             bytes: [0; MAX_PROGRAM],
             length: 0,
         };
-        program.length = INSTRUCTION * build(tree.as_ref(), &mut program.bytes)?;
+        program.length = INSTRUCTION * call(&mut program.bytes)?;
         Ok(program)
     }
 

@@ -6,8 +6,8 @@ use core::slice;
 
 use crate::record::RECORD;
 use crate::{
-    check_archive, count, direct, type_line, Condition, Counted, Error, Link, Record, Refusal,
-    TypeError, MAX_PROGRAM, MAX_TREE,
+    check_archive, count, direct, question, type_line, Condition, Counted, Error, Link, Record,
+    Refusal, Size, TypeError, MAX_PROGRAM, MAX_TREE,
 };
 
 /// The bytes before the first record.
@@ -164,6 +164,26 @@ impl Tree {
     /// Its records in the order of the file: a join, its left part, its right part.
     pub fn records(&self) -> Records<'_> {
         self.root().records()
+    }
+
+    /// How large its program is, so that room is reserved before it is loaded.
+    ///
+    /// # Errors
+    ///
+    /// Refusals 5 to 8 and 15: the tree has no program. [`OldArchive`](Error::OldArchive) where
+    /// [`check_archive`] says so.
+    ///
+    /// ```
+    /// use dabberpearl::{conditions::*, Refusal, Tree};
+    ///
+    /// assert_eq!(Tree::raw_ip(protocol(Ip))?.size()?.bytes(), 2 * 8);
+    /// let six = Tree::raw_ip(protocol(Ip6))?;
+    /// assert_eq!(six.size(), Err(Refusal::KindOnRaw.into()));
+    /// # Ok::<(), dabberpearl::Error>(())
+    /// ```
+    pub fn size(&self) -> Result<Size, Error> {
+        check_archive()?;
+        question(self.as_bytes())
     }
 
     /// Whether its conditions hold of a frame, read directly, without a program. Bytes past the

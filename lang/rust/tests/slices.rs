@@ -3,7 +3,9 @@
 mod common;
 
 use common::*;
-use dabberpearl::{build, direct, run, Outcome, Program, Refusal, Verdict, MAX_FRAME};
+use dabberpearl::{
+    build, direct, load, question, run, Outcome, Program, Refusal, Verdict, MAX_FRAME,
+};
 
 #[test]
 fn empty() {
@@ -49,6 +51,10 @@ fn at_every_alignment() {
         );
         let mut out = vec![0xee; shift + 88];
         assert_eq!(build(&t[shift..], &mut out[shift..]), Ok(11));
+        assert_eq!(out, p);
+        let size = question(&t[shift..]).expect("an accepted tree");
+        out[shift..].fill(0xee);
+        assert_eq!(load(&t[shift..], size, &mut out[shift..]), Ok(11));
         assert_eq!(out, p);
         let verdict = |f: &[u8]| run(&p[shift..], &f[shift..]).map(|o| o.verdict);
         assert_eq!(verdict(&y), Ok(Verdict::Accepted));
@@ -176,12 +182,15 @@ fn from_several_threads() {
         far(EITHER),
     ];
     let alone: Vec<_> = trees.iter().map(Program::from_tree).collect();
+    let asked = |tree: &Vec<u8>| Program::load(tree, question(tree)?);
     std::thread::scope(|scope| {
         for _ in 0..4 {
             scope.spawn(|| {
                 for _ in 0..200 {
                     let now: Vec<_> = trees.iter().map(Program::from_tree).collect();
                     assert_eq!(now, alone);
+                    let loaded: Vec<_> = trees.iter().map(asked).collect();
+                    assert_eq!(loaded, alone);
                 }
             });
         }
