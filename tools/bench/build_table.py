@@ -12,20 +12,23 @@ sys.dont_write_bytecode = True
 from table import mean, placements_of, spread
 from words import run, stop
 
-# A line's times are the medians of the four builders, or with an older pft_build of the five, then their minima.
-FOUR, FIVE = 2 * 4, 2 * 5
+# A line's times are the medians of the six builders, or with an older pft_build of the seven, then their minima.
+SIX, SEVEN = 2 * 6, 2 * 7
 # The columns of a table: the times by name and place, and the ratios by name and the places of their times.
 TIMES = [("exact", 0), ("32,768", 1), ("compile", 2), ("file", 3)]
 RATIOS = [("exact/compile", 0, 2), ("exact/file", 0, 3), ("32,768/file", 1, 3)]
+# The same of question and load, beside the build with a buffer of the program's length.
+HALVES = [("exact", 0), ("question", 4), ("load", 5)]
+HALF_RATIOS = [("question/exact", 4, 0), ("load/exact", 5, 0)]
 # The same of the last table, whose second ratio is that of the minima.
-CHANGES = [("before", 4), ("after", 0)]
-CHANGE_RATIOS = [("after/before", 0, 4), ("of the minima", 5, 9)]
+CHANGES = [("before", 6), ("after", 0)]
+CHANGE_RATIOS = [("after/before", 0, 6), ("of the minima", 7, 13)]
 
 
 def row(line):
     """Name, records, instructions and the times."""
     name, records, insns, *times = line.split()
-    if len(times) not in (FOUR, FIVE):
+    if len(times) not in (SIX, SEVEN):
         raise ValueError(f"{len(times)} times in row {name}")
     return name, int(records), int(insns), list(map(float, times))
 
@@ -64,7 +67,9 @@ def main():
     )
     table("\nmedian of the rounds", processes, 0, TIMES, RATIOS)
     table("\nminimum of the rounds", processes, size // 2, TIMES, RATIOS)
-    if size == FIVE:
+    table("\nquestion and load: median of the rounds", processes, 0, HALVES, HALF_RATIOS)
+    table("\nquestion and load: minimum of the rounds", processes, size // 2, HALVES, HALF_RATIOS)
+    if size == SEVEN:
         table("\nbefore and after, exact: median of the rounds", processes, 0, CHANGES, CHANGE_RATIOS)
 
 

@@ -1,6 +1,6 @@
-//! Times `pft_build` and the published `compile` on the same tree files, in one
-//! process and in turns; with `--cfg before` also the `pft_build` of an older
-//! library, whose names begin with `before_`.
+//! Times `pft_build`, `pft_question`, `pft_load` and the published `compile` on the
+//! same tree files, in one process and in turns; with `--cfg before` also the
+//! `pft_build` of an older library, whose names begin with `before_`.
 //!
 //! `answers.rs` and the published modules are put beside this file by
 //! tools/bench/builds. Reads the lines of files.py; for each prints its name,
@@ -15,6 +15,14 @@ include!("answers.rs");
 
 extern "C" {
     fn pft_build(tree: *const u8, size: usize, program: *mut u8, length: usize) -> u32;
+    fn pft_question(tree: *const u8, size: usize) -> u32;
+    fn pft_load(
+        tree: *const u8,
+        size: usize,
+        count: u32,
+        program: *mut u8,
+        length: usize,
+    ) -> u32;
     #[cfg(before)]
     fn before_pft_build(tree: *const u8, size: usize, program: *mut u8, length: usize) -> u32;
 }
@@ -63,12 +71,23 @@ fn row(line: &str) -> Row {
 
 // ── The builders ─────────────────────────────────────────────────────────────
 
-/// The count, and but for `from_tree` the program in the buffer.
+/// The count, and but for `from_tree` and `by_question` the program in the buffer.
 type Builder = fn(&Row, &mut [u8]) -> u32;
 
 fn by_pft(row: &Row, program: &mut [u8]) -> u32 {
     let (tree, size) = (row.file.as_ptr(), row.file.len());
     unsafe { pft_build(tree, size, program.as_mut_ptr(), program.len()) }
+}
+
+fn by_question(row: &Row, _: &mut [u8]) -> u32 {
+    unsafe { pft_question(row.file.as_ptr(), row.file.len()) }
+}
+
+/// With the row's own count.
+fn by_load(row: &Row, program: &mut [u8]) -> u32 {
+    let (tree, size) = (row.file.as_ptr(), row.file.len());
+    let count = (row.program.len() / INSN) as u32;
+    unsafe { pft_load(tree, size, count, program.as_mut_ptr(), program.len()) }
 }
 
 #[cfg(before)]
@@ -96,14 +115,17 @@ fn from_file(row: &Row, program: &mut [u8]) -> u32 {
     }
 }
 
-/// Each with the length of its buffer, 0 for the program's own.
-const BUILDERS: &[(Builder, usize)] = &[
-    (by_pft, 0),
-    (by_pft, MAX_PROGRAM),
-    (from_tree, 0),
-    (from_file, 0),
+/// Each with the length of its buffer, 0 for the program's own, and whether it
+/// writes the program there.
+const BUILDERS: &[(Builder, usize, bool)] = &[
+    (by_pft, 0, true),
+    (by_pft, MAX_PROGRAM, true),
+    (from_tree, 0, false),
+    (from_file, 0, true),
+    (by_question, 0, false),
+    (by_load, 0, true),
     #[cfg(before)]
-    (by_before, 0),
+    (by_before, 0, true),
 ];
 
 fn buffer(row: &Row, length: usize) -> Vec<u8> {
@@ -118,20 +140,21 @@ fn buffer(row: &Row, length: usize) -> Vec<u8> {
 }
 
 fn turn(row: &Row, builder: usize, times: usize) {
-    let (build, length) = BUILDERS[builder];
+    let (build, length, _) = BUILDERS[builder];
     let mut program = buffer(row, length);
     for _ in 0..times {
         black_box(build(black_box(row), black_box(&mut program)));
     }
 }
 
-/// Stops unless all make the same program; of `from_tree` the count is looked at.
+/// Stops unless all make the same program; of those that write none the count is
+/// looked at.
 fn compare(row: &Row) {
-    for (i, &(build, length)) in BUILDERS.iter().enumerate() {
+    for &(build, length, writes) in BUILDERS {
         let mut program = buffer(row, length);
         let count = build(row, &mut program) as usize;
-        let written = i == 2 || program[..row.program.len()] == row.program;
-        if INSN * count != row.program.len() || !written {
+        let same = !writes || program[..row.program.len()] == row.program;
+        if INSN * count != row.program.len() || !same {
             fail(&format!("{}: not the same program", row.name));
         }
     }

@@ -187,7 +187,7 @@ class Repository:
         return (
             "use lib.Dec.{T}\n"
             "use mathlib.Core.List.{List, [], _∷_}\n"
-            "use Rattle.tables.specs.Rows.{Row, builds, runs, reads, counts, frames, onto, all, none}\n"
+            "use Rattle.tables.specs.Rows.{Row, builds, runs, reads, counts, frames, questions, loads, onto, all, none}\n"
             + quick
             + "".join(self.theorem(i, part) for i, part in enumerate(parts))
         )

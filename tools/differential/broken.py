@@ -618,6 +618,256 @@ BUFFER = [
     ),
 ]
 
+# T-05: what loads.rs and edits.rs say beside the Rust of the question (the files "questions" and
+# "asking") and of the load.
+ASKED = """Ok(program) => count_of(program),
+        Err(n) => n << 16,"""
+MOVED = "Ok(program) if count_of(program) != count =>"
+ANSWERED = "builds::wanted(&Err(COUNT_MOVED), length),"
+OTHERS = "_ => builds::wanted(answer, length),"
+AS_IT_IS = "let there = wanted(&self.answers[now], self.count, slot.length);"
+
+
+def moved_where(test):
+    """19 where another test holds."""
+    return f"Ok(program) if {test} =>"
+
+
+def changed(answer, change):
+    """What a build into a buffer leaves, with its lent bytes changed."""
+    return f"""{{
+            let (number, mut space) = builds::wanted({answer}, length);
+            let lent = &mut space[16..16 + length];
+            {change}
+            (number, space)
+        }}"""
+
+
+LOADS = [
+    (
+        "a question is one off",
+        "questions",
+        ASKED,
+        ASKED.replace("count_of(program)", "count_of(program) + 1"),
+    ),
+    (
+        "a question answers the program's bytes",
+        "questions",
+        ASKED,
+        ASKED.replace("count_of(program)", "program.len() as u32"),
+    ),
+    (
+        "a question says 9",
+        "questions",
+        ASKED,
+        ASKED.replace("count_of(program)", "SHORT_BUFFER << 16"),
+    ),
+    (
+        "a question says 9 of over 512 instructions",
+        "questions",
+        ASKED,
+        f"""Ok(program) if count_of(program) > 512 => SHORT_BUFFER << 16,
+        {ASKED}""",
+    ),
+    (
+        "a question does not look for 8",
+        "questions",
+        ASKED,
+        f"""Err(8) => 257,
+        {ASKED}""",
+    ),
+    (
+        "a question says 7 for 15",
+        "questions",
+        ASKED,
+        f"""Err(15) => 7 << 16,
+        {ASKED}""",
+    ),
+    (
+        "a question says 0 for every refusal",
+        "questions",
+        ASKED,
+        ASKED.replace("n << 16", "n & 0"),
+    ),
+    (
+        "a question is answered for the tree as it was asked first",
+        "asking",
+        "asked(&self.answers[now]), slot",
+        "asked(&self.answers[AS_ASKED]), slot",
+    ),
+    (
+        "a question zeroes the buffer that was lent last",
+        "asking",
+        "let here = (slot.ask(), slot.space.clone());",
+        """let mut there = there;
+        there.1[MARGIN..MARGIN + slot.length].fill(0);
+        let here = (slot.ask(), slot.space.clone());""",
+    ),
+    (
+        "9 comes before 19",
+        "loads",
+        MOVED,
+        moved_where("program.len() <= length && count_of(program) != count"),
+    ),
+    *(
+        (
+            f"19 comes before {n}",
+            "loads",
+            MOVED,
+            f"""Err({n}) => {ANSWERED}
+        {MOVED}""",
+        )
+        for n in (1, 2, 3, 4, 5, 6, 7, 8, 15)
+    ),
+    (
+        "19 comes before 8 where no program has the count",
+        "loads",
+        MOVED,
+        f"""Err(8) if count > MOST as u32 => {ANSWERED}
+        {MOVED}""",
+    ),
+    *(
+        (
+            f"a count is compared in {bits} bits",
+            "loads",
+            MOVED,
+            moved_where(f"(count_of(program) ^ count) << {32 - bits} != 0"),
+        )
+        for bits in (8, 12, 16, 24, 31)
+    ),
+    (
+        "a count is the most that a tree may have",
+        "loads",
+        MOVED,
+        moved_where("count_of(program) > count"),
+    ),
+    (
+        "a count is the least that a tree may have",
+        "loads",
+        MOVED,
+        moved_where("count_of(program) < count"),
+    ),
+    (
+        "a count one too high is taken",
+        "loads",
+        MOVED,
+        moved_where("count.wrapping_sub(count_of(program)) > 1"),
+    ),
+    (
+        "a count one too low is taken",
+        "loads",
+        MOVED,
+        moved_where("count_of(program).wrapping_sub(count) > 1"),
+    ),
+    (
+        "0 goes with every tree",
+        "loads",
+        MOVED,
+        moved_where("count != 0 && count_of(program) != count"),
+    ),
+    (
+        "4,294,967,295 goes with every tree",
+        "loads",
+        MOVED,
+        moved_where("count != u32::MAX && count_of(program) != count"),
+    ),
+    (
+        "every count goes with every tree",
+        "loads",
+        MOVED,
+        moved_where("count_of(program) == 0"),
+    ),
+    (
+        "another count is 9",
+        "loads",
+        ANSWERED,
+        ANSWERED.replace("COUNT_MOVED", "SHORT_BUFFER"),
+    ),
+    (
+        "19 leaves the bytes",
+        "loads",
+        ANSWERED,
+        changed("&Err(COUNT_MOVED)", "lent.fill(0x5A);"),
+    ),
+    (
+        "19 leaves the last byte",
+        "loads",
+        ANSWERED,
+        changed("&Err(COUNT_MOVED)", "lent.last_mut().map(|last| *last = 0x5A);"),
+    ),
+    (
+        "19 leaves the program",
+        "loads",
+        ANSWERED,
+        "(COUNT_MOVED << 16, builds::wanted(answer, length).1),",
+    ),
+    (
+        "a load into exactly enough bytes is 9",
+        "loads",
+        OTHERS,
+        f"""Ok(p) if p.len() == length => builds::wanted(&Err(SHORT_BUFFER), length),
+        {OTHERS}""",
+    ),
+    (
+        "9 leaves what there is room for",
+        "loads",
+        OTHERS,
+        f"""Ok(p) if p.len() > length => {changed("answer", "lent.copy_from_slice(&p[..length]);")}
+        {OTHERS}""",
+    ),
+    (
+        "a load leaves the bytes behind the program",
+        "loads",
+        OTHERS,
+        f"""Ok(p) if p.len() < length => {changed("answer", "lent[p.len()..].fill(0x5A);")}
+        {OTHERS}""",
+    ),
+    (
+        "a load that 15 refuses leaves the bytes",
+        "loads",
+        OTHERS,
+        f"""Err(15) => {changed("answer", "lent.fill(0x5A);")}
+        {OTHERS}""",
+    ),
+    (
+        "a load gives the tree as it was asked",
+        "edits",
+        AS_IT_IS,
+        AS_IT_IS.replace("[now]", "[AS_ASKED]"),
+    ),
+    (
+        "a load gives the tree as it was asked, where the count is equal",
+        "edits",
+        AS_IT_IS,
+        f"""let equal = asked(&self.answers[now]) == self.count;
+        let now = [now, AS_ASKED][equal as usize];
+        {AS_IT_IS}""",
+    ),
+    (
+        "a tree that was edited has moved, whatever its count",
+        "edits",
+        AS_IT_IS,
+        f"""let same = self.answers[now] == self.answers[AS_ASKED];
+        {AS_IT_IS.replace("self.count", "if same { self.count } else { 0 }")}""",
+    ),
+    (
+        "a tree that was edited is loaded with its own count",
+        "edits",
+        AS_IT_IS,
+        AS_IT_IS.replace("self.count", "asked(&self.answers[now])"),
+    ),
+    (
+        "19 leaves the program that the buffer held",
+        "edits",
+        AS_IT_IS,
+        f"""{AS_IT_IS}
+        let there = match there.0 >> 16 {{
+            19 => (there.0, slot.space.clone()),
+            _ => there,
+        }};""",
+    ),
+]
+
 # Wrong for one value only: where a run draws from few, it never meets it.
 VALUES = [
     (
@@ -1940,6 +2190,7 @@ GROUPS = [
     ("machine", MACHINE),
     ("checks", CHECKS),
     ("buffer", BUFFER),
+    ("questions and loads", LOADS),
     ("single values", VALUES),
     ("readings", READINGS),
     ("captures", CAPTURES),

@@ -5,10 +5,11 @@ use std::collections::{BTreeMap, HashMap};
 
 use crate::bpf::Insn;
 use crate::lent::{lent, other_byte, CANARY, MARGIN, STALE};
-use crate::part::{to_hex, Answers, Parts};
+use crate::part::{to_hex, Answers};
+use crate::parts::Parts;
 use crate::trees::{self, edges, systematic, Rng};
 use crate::wide::widened;
-use crate::{exports, insn, second, shrink, Number};
+use crate::{exports, insn, loads, second, shrink, Number};
 use crate::{HEADER, INSN, LINK, MAX_PROGRAM, MAX_RECORDS, RECORD};
 
 /// What a generator makes of a file: the program's bytes, or the refusal.
@@ -31,7 +32,7 @@ fn is_cooked(file: &[u8]) -> bool {
 }
 
 /// Whose answer the port's has to be.
-fn judge(file: &[u8]) -> &'static str {
+pub fn judge(file: &[u8]) -> &'static str {
     match is_cooked(file) {
         true => "the second generator",
         false => "the Rust",
@@ -39,7 +40,7 @@ fn judge(file: &[u8]) -> &'static str {
 }
 
 /// Counts a build that is compared.
-pub fn note(file: &[u8], answer: &Answer, parts: &mut Parts) {
+fn note(file: &[u8], answer: &Answer, parts: &mut Parts) {
     parts.builds.compared += 1;
     if is_cooked(file) {
         parts.cooked[answer.as_ref().err().copied().unwrap_or(0) as usize] += 1;
@@ -281,24 +282,49 @@ impl Met {
 
 // ── The comparison ───────────────────────────────────────────────────────────
 
-/// Compares every buffer of one file; counts one difference at most.
+/// Compares every buffer of one file, counting one difference at most; then the question and
+/// loads.
 fn compare(file: &[u8], answer: &Answer, sizes: &mut Rng, met: &mut Met, parts: &mut Parts) {
     met.note(file, answer);
     note(file, answer, parts);
-    for length in lengths(sizes, answer) {
+    let lengths = lengths(sizes, answer);
+    let differs = lengths.iter().find_map(|length| {
         met.calls += 1;
-        met.short += answer.as_ref().is_ok_and(|p| p.len() > length) as u64;
-        if let Some(words) = difference(file, answer, length) {
+        met.short += answer.as_ref().is_ok_and(|p| p.len() > *length) as u64;
+        difference(file, answer, *length)
+    });
+    match differs {
+        Some(words) => {
             let text = || any_difference(file).map_or(words, |_| least_difference(file));
             parts.builds.differs(file.len(), text);
-            break;
         }
+        None => loads::compare(file, answer, parts),
     }
     hold_second(file, answer, parts);
 }
 
+/// Whether an exact buffer of one file differs, which is then noted.
+pub fn compare_exact(file: &[u8], answer: &Answer, parts: &mut Parts) -> bool {
+    note(file, answer, parts);
+    let differs = quick_difference(file, answer);
+    if differs {
+        parts.builds.differs(file.len(), || least_difference(file));
+    }
+    hold_second(file, answer, parts);
+    differs
+}
+
+/// The same with a question and loads, where the builds agree.
+pub fn compare_once(file: &[u8], answer: &Answer, parts: &mut Parts) -> bool {
+    let differs = compare_exact(file, answer, parts);
+    if !differs {
+        loads::compare_few(file, answer, parts);
+    }
+    differs
+}
+
 /// The smallest input that differs for one of a few lengths.
-pub fn least_difference(file: &[u8]) -> String {
+fn least_difference(file: &[u8]) -> String {
     let least = shrink::tree(file, |f| any_difference(f).is_some());
     any_difference(&least).unwrap_or_default()
 }
@@ -330,7 +356,7 @@ fn compare_file(file: &[u8], sizes: &mut Rng, met: &mut Met, parts: &mut Parts) 
     compare(file, &answer_of(file), sizes, met, parts);
 }
 
-fn shown(number: u32) -> String {
+pub fn shown(number: u32) -> String {
     match number >> 16 {
         0 => format!("count {number}"),
         n => format!("refused {n}"),

@@ -10,7 +10,8 @@ use crate::drafts::Spoiled;
 use crate::filter::{bodies, drawn_filter, faults, written, Filter};
 use crate::lent::{lent, other_byte};
 use crate::machine::{ACCEPTED, BROKEN, DROPPED, SHORT};
-use crate::part::{to_hex, Answers, Parts, FIRST};
+use crate::part::{to_hex, Answers, FIRST};
+use crate::parts::Parts;
 use crate::pcap::{self, Given, Order, LONGEST, MARKS, NO_CAPTURE, OTHER_LINK};
 use crate::trees::Rng;
 use crate::{exports, fail, ranges, shrink, Number};
@@ -279,14 +280,7 @@ impl Met<'_> {
 
     /// A tree with which nothing can be said of captures: the builds differ.
     pub fn builds_differ(&mut self, filter: &Filter) -> bool {
-        builds::note(&filter.file, &filter.answer, self.parts);
-        let differ = builds::quick_difference(&filter.file, &filter.answer);
-        if differ {
-            let text = || builds::least_difference(&filter.file);
-            self.parts.builds.differs(filter.file.len(), text);
-        }
-        builds::hold_second(&filter.file, &filter.answer, self.parts);
-        differ
+        builds::compare_exact(&filter.file, &filter.answer, self.parts)
     }
 
     /// A capture with buffers of some lengths, and its frames one after the other.

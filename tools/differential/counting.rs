@@ -8,7 +8,7 @@ use std::process::{Command, Output, Stdio};
 use crate::captures::Reading;
 use crate::fail;
 use crate::filter::{bodies, drawn_filter, faults, written, Filter};
-use crate::part::Parts;
+use crate::parts::Parts;
 use crate::pcap::{Given, CUT_FRAME, LONGEST, NO_CAPTURE, OTHER_LINK};
 use crate::trees::Rng;
 

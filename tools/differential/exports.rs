@@ -3,6 +3,14 @@
 mod c {
     extern "C" {
         pub fn pft_build(tree: *const u8, size: usize, program: *mut u8, length: usize) -> u32;
+        pub fn pft_question(tree: *const u8, size: usize) -> u32;
+        pub fn pft_load(
+            tree: *const u8,
+            size: usize,
+            count: u32,
+            program: *mut u8,
+            length: usize,
+        ) -> u32;
         pub fn pft_run(program: *const u8, size: usize, frame: *const u8, length: usize) -> u32;
         pub fn pft_direct(tree: *const u8, size: usize, frame: *const u8, length: usize) -> u32;
         pub fn pft_count(
@@ -24,6 +32,24 @@ pub fn build(tree: &[u8], program: &mut [u8]) -> u32 {
         c::pft_build(
             tree.as_ptr(),
             tree.len(),
+            program.as_mut_ptr(),
+            program.len(),
+        )
+    }
+}
+
+/// Refusal × 65,536 + count, without a buffer.
+pub fn question(tree: &[u8]) -> u32 {
+    unsafe { c::pft_question(tree.as_ptr(), tree.len()) }
+}
+
+/// Refusal × 65,536 + count, of a tree that has a count.
+pub fn load(tree: &[u8], count: u32, program: &mut [u8]) -> u32 {
+    unsafe {
+        c::pft_load(
+            tree.as_ptr(),
+            tree.len(),
+            count,
             program.as_mut_ptr(),
             program.len(),
         )

@@ -2,9 +2,9 @@
 //! keeps what has hardly fewer instructions, at the end none fewer. Every program
 //! that it meets is compared.
 
-use crate::builds::{answer_of, hold_second, least_difference, note, quick_difference};
+use crate::builds::{answer_of, compare_once};
 use crate::frames;
-use crate::part::Parts;
+use crate::parts::Parts;
 use crate::shrink::end;
 use crate::trees::edges::file_of;
 use crate::trees::{self, leaf, record, Record, Rng, Values, ALL, AND, MOST, NOT, OR, SLL, SOURCE};
@@ -151,12 +151,7 @@ fn changed_leaf(rng: &mut Rng, part: &[Record]) -> Vec<Record> {
 /// How many instructions a file has, 0 if it is refused; the builds are compared.
 fn measured(file: &[u8], met: &mut Met) -> usize {
     let answer = answer_of(file);
-    note(file, &answer, met.parts);
-    if quick_difference(file, &answer) {
-        let text = || least_difference(file);
-        met.parts.builds.differs(file.len(), text);
-    }
-    hold_second(file, &answer, met.parts);
+    compare_once(file, &answer, met.parts);
     let length = answer.map_or(0, |program| program.len() / INSN);
     met.programs += (length > 0) as u64;
     met.refused += (length == 0) as u64;

@@ -6,7 +6,8 @@
 use std::collections::HashSet;
 
 use crate::bpf::Insn;
-use crate::part::{to_hex, Parts};
+use crate::part::to_hex;
+use crate::parts::Parts;
 use crate::trees::Rng;
 use crate::{exports, fail, insn, shrink, traced, vm, INSN, MAX_FRAME, MAX_PROGRAM};
 

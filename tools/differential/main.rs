@@ -1,6 +1,6 @@
-//! Compares the port with the published Rust: builds, runs, direct readings; and
-//! captures. Cooked trees are compared with a second generator, which on all others is
-//! held to the Rust.
+//! Compares the port with the published Rust: builds, questions, loads, runs, direct
+//! readings; and captures. Cooked trees are compared with a second generator, which on all
+//! others is held to the Rust.
 //!
 //! differential SEED COUNT                compares
 //! differential --captures SEED COUNT [PROGRAM FOLDER]
@@ -13,7 +13,7 @@
 use std::io::Write;
 
 use command::{end_with_reader, number, outlive_reader};
-use part::Parts;
+use parts::Parts;
 use trees::Rng;
 
 mod builds;
@@ -21,14 +21,17 @@ mod captures;
 mod command;
 mod counting;
 mod drafts;
+mod edits;
 mod exports;
 mod filter;
 mod frames;
 mod growth;
 mod lent;
+mod loads;
 mod machine;
 mod meaning;
 mod part;
+mod parts;
 mod pcap;
 mod ranges;
 mod readings;
@@ -42,17 +45,21 @@ mod trial;
 mod wide;
 include!("answers.rs");
 
-/// Runs of the machine, and frames of readings, for one random file; and random
-/// files for one step of growth.
+/// Runs of the machine, and frames of readings, for one random file; random files for one
+/// step of growth, and for one tree that is edited.
 const RUNS: u64 = 3;
 const FRAMES: u64 = 6;
 const FILES: u64 = 8;
+const EDITED: u64 = 16;
 
 type Stage = fn(seed: u64, count: u64, parts: &mut Parts);
 
 /// In the order of the run: all that builds comes before machine and readings.
-const STAGES: [(&str, Stage); 5] = [
+const STAGES: [(&str, Stage); 6] = [
     ("builds", builds::compare_all),
+    ("edits", |seed, count, parts| {
+        edits::compare_all(seed, count / EDITED, parts)
+    }),
     ("growth", |seed, count, parts| {
         growth::compare_all(seed, count / FILES, parts)
     }),
@@ -74,7 +81,7 @@ const CAPTURES: (&str, Stage) = ("captures", captures::compare_all);
 const SECOND: (&str, Stage) = ("second", builds::hold_all);
 
 fn compare_captures(seed: u64, count: u64, program: Option<(&str, &str)>) {
-    let mut parts = Parts::new();
+    let mut parts = Parts::new(seed);
     captures::compare_all(seed, count, &mut parts);
     if let Some((program, folder)) = program {
         outlive_reader();
@@ -85,7 +92,7 @@ fn compare_captures(seed: u64, count: u64, program: Option<(&str, &str)>) {
 }
 
 fn compare_all(seed: u64, count: u64) {
-    let mut parts = Parts::new();
+    let mut parts = Parts::new(seed);
     let mut told = false;
     for (name, stage) in STAGES {
         println!("# {name}");
@@ -93,17 +100,21 @@ fn compare_all(seed: u64, count: u64) {
         if parts.builds.differences > 0 && !told {
             told = true;
             parts.builds.print();
-            println!("builds differ: no run and no reading is compared over a program that does");
+            println!("builds differ: nothing else is compared over a program that does");
         }
     }
     println!("# result");
-    std::process::exit((parts.print() > 0) as i32);
+    let differences = parts.print();
+    if differences == 0 {
+        parts.loaded.require_all();
+    }
+    std::process::exit((differences > 0) as i32);
 }
 
 /// One stage, or one field of the values, up to its first difference.
 fn compare_first(name: &str, seed: u64, count: u64) {
     part::FIRST.store(true, std::sync::atomic::Ordering::Relaxed);
-    let mut parts = Parts::new();
+    let mut parts = Parts::new(seed);
     let mut stages = STAGES.iter().chain([&CAPTURES, &SECOND]);
     match stages.find(|(n, _)| *n == name) {
         Some((_, stage)) => stage(seed, count, &mut parts),

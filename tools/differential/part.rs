@@ -1,4 +1,4 @@
-//! What was compared and what differed, by the part that is to blame.
+//! What was compared and what differed of one part, and how parts are told.
 
 use std::sync::atomic::{AtomicBool, Ordering};
 
@@ -44,7 +44,7 @@ impl Part {
         }
     }
 
-    fn was_asked(&self) -> bool {
+    pub fn was_asked(&self) -> bool {
         self.compared + self.differences > 0
     }
 
@@ -56,74 +56,6 @@ impl Part {
             "{}: {} compared, {} differences",
             self.name, self.compared, self.differences
         );
-    }
-}
-
-/// What a difference is put down to.
-#[derive(Clone, Copy, PartialEq)]
-pub enum Blame {
-    Machine,
-    Reading,
-}
-
-/// Builds, the second generator, runs over one and the same program, readings, and
-/// captures.
-pub struct Parts {
-    pub builds: Part,
-    pub second: Part,
-    pub machine: Part,
-    pub readings: Part,
-    pub captures: Part,
-    /// Of the builds those that the second generator judges, by its answers.
-    pub cooked: Answers,
-}
-
-impl Parts {
-    pub fn new() -> Parts {
-        Parts {
-            builds: Part::new("builds"),
-            second: Part::new("second generator"),
-            machine: Part::new("machine"),
-            readings: Part::new("readings"),
-            captures: Part::new("captures"),
-            cooked: Answers::default(),
-        }
-    }
-
-    pub fn of(&mut self, blame: Blame) -> &mut Part {
-        match blame {
-            Blame::Machine => &mut self.machine,
-            Blame::Reading => &mut self.readings,
-        }
-    }
-
-    fn all(&self) -> [&Part; 5] {
-        [
-            &self.builds,
-            &self.second,
-            &self.machine,
-            &self.readings,
-            &self.captures,
-        ]
-    }
-
-    fn print_cooked(&self) {
-        let [accepted, refused @ ..] = self.cooked;
-        let cooked = accepted + refused.iter().sum::<u64>();
-        let met = (1..).zip(refused).filter(|(_, count)| *count > 0);
-        let met: String = met
-            .map(|(n, count)| format!(", refused {n}: {count}"))
-            .collect();
-        let whose = "cooked trees, compared with the second generator";
-        println!("{whose}: {cooked}, accepted {accepted}{met}");
-    }
-
-    /// All of it; how many differences there were.
-    pub fn print(&self) -> u64 {
-        if self.builds.was_asked() {
-            self.print_cooked();
-        }
-        print_all(&self.all())
     }
 }
 

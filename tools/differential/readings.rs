@@ -5,7 +5,8 @@ use std::collections::HashSet;
 
 use crate::frames::{self, REACH};
 use crate::machine::{ACCEPTED, BROKEN, DROPPED, SHORT};
-use crate::part::{to_hex, Answers, Parts};
+use crate::part::{to_hex, Answers};
+use crate::parts::Parts;
 use crate::trees::{self, edges, Rng};
 use crate::trial::{Seen, Trial};
 use crate::wide::widened;

@@ -6,7 +6,7 @@
 //! seed.
 
 use crate::frames::{self, network, Sketch, ETHER_LENGTH, REACH};
-use crate::part::Parts;
+use crate::parts::Parts;
 use crate::readings::refused_reading;
 use crate::trees::edges::file_of;
 use crate::trees::systematic::{conditions, with, KINDS_AND_OTHERS, LINKS};

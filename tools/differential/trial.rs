@@ -5,7 +5,8 @@ use crate::bpf::Insn;
 use crate::builds::{self, Answer};
 use crate::frames::{network, REACH};
 use crate::machine::{rust_run, shown, ACCEPTED, DROPPED, SHORT};
-use crate::part::{to_hex, Blame, Parts};
+use crate::part::to_hex;
+use crate::parts::{Blame, Parts};
 use crate::{exports, meaning, shrink, vm, Number, INSN};
 
 /// What both builds made of a tree.
@@ -37,13 +38,7 @@ impl Trial {
     pub fn new(file: &[u8], parts: &mut Parts) -> Option<Trial> {
         let built = crate::build(file);
         let answer = builds::bytes_of(&built);
-        builds::note(file, &answer, parts);
-        let differ = builds::quick_difference(file, &answer);
-        if differ {
-            let text = || builds::least_difference(file);
-            parts.builds.differs(file.len(), text);
-        }
-        builds::hold_second(file, &answer, parts);
+        let differ = builds::compare_once(file, &answer, parts);
         Trial::of(file, built, answer).filter(|_| !differ)
     }
 

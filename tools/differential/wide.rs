@@ -7,7 +7,7 @@ use crate::{HEADER, RECORD};
 
 /// What a value is; the same value of the same sort stays the same in a file.
 #[derive(Clone, Copy, PartialEq)]
-enum Sort {
+pub enum Sort {
     Number,
     Prefix,
     Port,
@@ -17,7 +17,7 @@ enum Sort {
 }
 
 /// The values of a record.
-fn values(r: &[u8]) -> Vec<(Sort, Range<usize>)> {
+pub fn values(r: &[u8]) -> Vec<(Sort, Range<usize>)> {
     match (r[0], r[2]) {
         (10, 11 | 12) | (23 | 24, _) => vec![(Sort::Number, 3..4)],
         (11, _) => vec![(Sort::Address, 8..12)],
