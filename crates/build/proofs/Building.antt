@@ -37,7 +37,7 @@ pub stands : (s : List ℕ) (L : LinkType) → AreBytes s → checked (parse s) 
 stands s L z e =
     let k = check-link s L e in
     let f : Filter = record { link = L; tree = treeOf s 0 } in
-    record { here = k .0; all = k .1; proper = parse-proper s z f (k .2) .0; size = parse-records s f (k .2) }
+    record { here = k .0; proper = parse-proper s z f (k .2) .0; size = parse-records s f (k .2) }
 
 pub program-of : (s : List ℕ) (L : LinkType) → checked (parse s) ≡ K.Link L → program s ≡ compile L (treeOf s 0)
 unfolding program

@@ -5,7 +5,7 @@ use reader::Checked;
 ghost use mathlib.Core.Path.{_≡_};
 ghost use Prim.Native.Nat.{_≤_};
 ghost use lib.ListN.{length};
-ghost use Rattle.generate.specs.Promises.{Counts, Generates};
+ghost use Rattle.generate.specs.Promises.{Generates};
 ghost use Rattle.build.specs.Build.{program, build, question, load};
 ghost use Rattle.build.specs.Promises.{answerOf};
 
@@ -46,21 +46,12 @@ pub fn build(tree: &[u8], program: &mut [u8]) -> BuildResult
     }
 }
 
-// A file's program, counted or refused; no buffer is lent.
-fn counted(tree: &[u8]) -> Compiled
-    ensures { λ r. ⌜ Counts (program (now (tree .entry))) r ⌝ }
-{
-    match reader::check(tree) {
-        Checked::Refused(r) => Compiled::Refused(r),
-        Checked::Link(link) => generate::count(tree, link),
-    }
-}
-
 // A tree file's count or refusal.
 pub fn question(tree: &[u8]) -> BuildResult
     ensures { λ r. ⌜ r ≡ question (now (tree .entry)) ⌝ }
 {
-    match counted(tree) {
+    let mut nothing = [0u8; 0];
+    match generated(tree, &mut nothing) {
         Compiled::Refused(r) => BuildResult::Refused(r),
         Compiled::Count(n) => BuildResult::Count(n as u32),
     }

@@ -20,7 +20,7 @@ use Rattle.codegen.proofs.Shape.{weight}
 use Rattle.emit.specs.declared.Patches.{Patches}
 use Rattle.emit.specs.Lines.{Below}
 use Rattle.emit.specs.Grown.{Grew}
-use Rattle.reader.specs.Reader.{Here, treeOf, endOf}
+use Rattle.reader.specs.Reader.{Here, treeOf}
 use Rattle.compile.specs.declared.Compiled.{Compiled}
 use Rattle.compile.specs.declared.Compiled.the-variants.{Count, Refused}
 use Rattle.guards.specs.Notes.{Noted}
@@ -34,7 +34,6 @@ pub record Joined (s M : List ℕ) : Type 0 where
 -- room for them
 pub record Noting (s M : List ℕ) : Type 0 where
   pub here : Here s 0
-  pub all : endOf s 0 ≡ countOf s
   pub notes : 2 < countOf s → 5 * countOf s ≤ length M
 
 -- a tree stands at record i of the file s, and M has its notes

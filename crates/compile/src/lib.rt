@@ -234,7 +234,11 @@ const ACCEPT: u64 = 0xffff_ffff_0000_0006;
 
 const DROP: u64 = 0x0000_0000_0000_0006;
 
-// The length of a file of two records, in which no tree has a join.
+// The lengths of a file's header and of a record, and that of a file of two records, in which no tree has a join.
+const HEADER: usize = 8;
+
+const RECORD: usize = 24;
+
 const JOINLESS: usize = 56;
 
 pub enum Compiled {
@@ -267,7 +271,7 @@ fn note_joins(tree: &[u8], notes: &mut [u64])
     ensures { λ _. ⌜ W.Joined (now (tree .entry)) (now (notes .exit)) ⌝ }
 {
     if JOINLESS < tree.len() {
-        let _r = guards::required_guards(tree, notes, 0);
+        guards::required_guards(tree, notes, (tree.len() - HEADER) / RECORD);
     }
 }
 

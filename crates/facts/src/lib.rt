@@ -143,48 +143,6 @@ fn both(x: Known, y: Known) -> Known
     }
 }
 
-fn or_known(x: Known, y: Known) -> Known
-    ensures { λ r. ⌜ r ≡ F.or x y ⌝ }
-{
-    match x {
-        Known::Unknown => y,
-        Known::Is(a) => Known::Is(a),
-    }
-}
-
-fn both_ports(x: Ports, y: Ports) -> Ports
-    ensures { λ r. ⌜ r ≡ F.bothPorts x y ⌝ }
-{
-    match x {
-        Ports::NotReady => Ports::NotReady,
-        Ports::ReadyOne(a) => match y {
-            Ports::NotReady => Ports::NotReady,
-            Ports::ReadyOne(b) => {
-                if a == b {
-                    return Ports::ReadyOne(a);
-                }
-                Ports::NotReady
-            }
-            Ports::ReadyTcpOrUdp => Ports::NotReady,
-        },
-        Ports::ReadyTcpOrUdp => match y {
-            Ports::NotReady => Ports::NotReady,
-            Ports::ReadyOne(_) => Ports::NotReady,
-            Ports::ReadyTcpOrUdp => Ports::ReadyTcpOrUdp,
-        },
-    }
-}
-
-fn or_ports(x: Ports, y: Ports) -> Ports
-    ensures { λ r. ⌜ r ≡ F.orPorts x y ⌝ }
-{
-    match x {
-        Ports::NotReady => y,
-        Ports::ReadyOne(a) => Ports::ReadyOne(a),
-        Ports::ReadyTcpOrUdp => Ports::ReadyTcpOrUdp,
-    }
-}
-
 fn join_ports(x: Ports, y: Ports) -> Ports
     ensures { λ r. ⌜ r ≡ F.joinPorts x y ⌝ }
 {
@@ -339,54 +297,6 @@ pub fn no_guards() -> GuardSet
         ip4_proto: Known::Unknown,
         ip6_nh: Known::Unknown,
         port_prereqs: Ports::NotReady,
-    }
-}
-
-// Guards of a conjunction: anything either side requires.
-pub fn union(g: GuardSet, h: GuardSet) -> GuardSet
-    ensures { λ r. ⌜ r ≡ F.union g h ⌝ }
-{
-    let et_g = g.ethertype;
-    let et_h = h.ethertype;
-    let ip4_g = g.ip4_proto;
-    let ip4_h = h.ip4_proto;
-    let ip6_g = g.ip6_nh;
-    let ip6_h = h.ip6_nh;
-    let ports_g = g.port_prereqs;
-    let ports_h = h.port_prereqs;
-    let et = or_known(et_g, et_h);
-    let ip4 = or_known(ip4_g, ip4_h);
-    let ip6 = or_known(ip6_g, ip6_h);
-    let ports = or_ports(ports_g, ports_h);
-    GuardSet {
-        ethertype: et,
-        ip4_proto: ip4,
-        ip6_nh: ip6,
-        port_prereqs: ports,
-    }
-}
-
-// Guards of a disjunction: only what both sides require.
-pub fn intersect(g: GuardSet, h: GuardSet) -> GuardSet
-    ensures { λ r. ⌜ r ≡ F.intersect g h ⌝ }
-{
-    let et_g = g.ethertype;
-    let et_h = h.ethertype;
-    let ip4_g = g.ip4_proto;
-    let ip4_h = h.ip4_proto;
-    let ip6_g = g.ip6_nh;
-    let ip6_h = h.ip6_nh;
-    let ports_g = g.port_prereqs;
-    let ports_h = h.port_prereqs;
-    let et = both(et_g, et_h);
-    let ip4 = both(ip4_g, ip4_h);
-    let ip6 = both(ip6_g, ip6_h);
-    let ports = both_ports(ports_g, ports_h);
-    GuardSet {
-        ethertype: et,
-        ip4_proto: ip4,
-        ip6_nh: ip6,
-        port_prereqs: ports,
     }
 }
 

@@ -76,11 +76,8 @@ reaches {I = I} {b} {n} l f h = by (length b) refl
 
 -- ---- in the part
 
-pub counts-refused : {o : Out (List Insn)} {q : Refusal} → o ≡ refused q → Counts o (C.Refused q)
-counts-refused e = record { answer = rw e; few = omega arith }
-
 pub part-refused : {o : Out (List Insn)} {b : List ℕ} {q : Refusal} → o ≡ refused q → Generates o b b (C.Refused q)
-part-refused e = record { counts = counts-refused e; part = rw e }
+part-refused e = record { counts = record { answer = rw e; few = omega arith }; part = rw e }
 
 module _ {o : Out (List Insn)} {I : List ℕ} {n : ℕ} (h : Held o I n) (cap : n ≤ 65536) where
   held-counts : Counts o (C.Count n)
@@ -108,7 +105,7 @@ pub ready : {s M Y N : List ℕ} (most : ℕ) → Stands s → File.countOf s �
 ready {s} most c few m y n cap =
     let w = most-lines s most c few in
     record {
-      noting = record { here = c .here; all = c .all; notes = λ k. omega (arith, m (omega arith)) };
+      noting = record { here = c .here; notes = λ k. omega (arith, m (omega arith)) };
       proper = c .proper;
       insns = omega arith;
       successes = omega arith;
@@ -117,6 +114,9 @@ ready {s} most c few m y n cap =
 
 pub lined : {s I b : List ℕ} (most : ℕ) → Stands s → File.countOf s ≤ most → linesOf most + 2 ≤ length I → Lined s I b
 lined {s} most c few i = record { reach = λ k. omega (arith, most-lines s most c few) }
+
+pub lined-none : {s I b : List ℕ} → length b ≡ 0 → Lined s I b
+lined-none e = record { reach = λ k. absurd (omega arith) }
 
 -- ---- what a caller is told
 

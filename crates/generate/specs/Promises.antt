@@ -11,7 +11,7 @@ use Rattle.bpf.specs.Program.{programBytes}
 use Rattle.ast.specs.Tree.{records}
 use Rattle.ast.specs.File as File
 use Rattle.ast.proofs.Proper.{Proper}
-use Rattle.reader.specs.Reader.{Here, treeOf, endOf}
+use Rattle.reader.specs.Reader.{Here, treeOf}
 use Rattle.compile.specs.declared.Compiled.{Compiled}
 use Rattle.compile.specs.declared.Compiled.the-variants.{Count, Refused}
 use Rattle.codegen.proofs.Shape.{weight}
@@ -19,7 +19,6 @@ use Rattle.codegen.proofs.Shape.{weight}
 -- a file that passed checks 1 to 4: one tree stands at its first record, takes all of them, and its fields are within their bounds
 pub record Stands (s : List ℕ) : Type 0 where
   pub here : Here s 0
-  pub all : endOf s 0 ≡ File.countOf s
   pub proper : Proper (treeOf s 0)
   pub size : records (treeOf s 0) ≡ File.countOf s
 

@@ -3,6 +3,7 @@ use ast::LinkType;
 use compile::Compiled;
 ghost use mathlib.Core.Path.{_≡_};
 ghost use Prim.Native.Nat.{_≤_};
+ghost use lib.ListN.{length};
 ghost use Rattle.ast.specs.File.{countOf};
 ghost use Rattle.codegen.specs.Compile as C;
 ghost use Rattle.reader.specs.Reader.{treeOf};
@@ -204,11 +205,24 @@ fn lines_large(tree: &[u8], link: LinkType, part: &mut [u8]) -> Compiled
     walk(tree, link, &mut insns, part)
 }
 
-// The program's count or refusal; the part starts with the program where it has room for it, and else stays as it is.
+// No lines, for a part that holds no instruction.
+fn lines_none(tree: &[u8], link: LinkType, part: &mut [u8]) -> Compiled
+    requires { ⌜ P.Stands (now tree) × (length (now part) ≡ 0) ⌝ }
+    ensures { λ r. ⌜ P.Generates (C.compile link (treeOf (now (tree .entry)) 0)) (now (part .entry)) (now (part .exit)) r ⌝ }
+{
+    let mut insns = [0u64; 0];
+    walk(tree, link, &mut insns, part)
+}
+
+// The program's count or refusal; the part starts with the program where it has room for it, and else stays as it is. Who wants the count
+// alone lends an empty part.
 pub fn generate(tree: &[u8], link: LinkType, part: &mut [u8]) -> Compiled
     requires { ⌜ P.Stands (now tree) ⌝ }
     ensures { λ r. ⌜ P.Generates (C.compile link (treeOf (now (tree .entry)) 0)) (now (part .entry)) (now (part .exit)) r ⌝ }
 {
+    if part.len() == 0 {
+        return lines_none(tree, link, part);
+    }
     if tree.len() <= TINY_FILE {
         return lines_tiny(tree, link, part);
     }
@@ -219,14 +233,4 @@ pub fn generate(tree: &[u8], link: LinkType, part: &mut [u8]) -> Compiled
         return lines_middle(tree, link, part);
     }
     lines_large(tree, link, part)
-}
-
-// The program's count or refusal, without lines.
-pub fn count(tree: &[u8], link: LinkType) -> Compiled
-    requires { ⌜ P.Stands (now tree) ⌝ }
-    ensures { λ r. ⌜ P.Counts (C.compile link (treeOf (now (tree .entry)) 0)) r ⌝ }
-{
-    let mut none = [0u64; 0];
-    let mut nothing = [0u8; 0];
-    walk(tree, link, &mut none, &mut nothing)
 }

@@ -1,11 +1,11 @@
--- Notes: what they say, which of them a call leaves, and those of a tree from those of its parts.
+-- Notes: what they say, what is written, and those of a record from those of the records after it.
 use Prim.Native.Nat.{ℕ, zero, suc, _+_, _-_, _*_, _≤_, _<_}
-use mathlib.Core.Path.{_≡_, refl, sym, ap, _∙_, subst}
+use mathlib.Core.Path.{_≡_, refl, sym, ap, ap₂, _∙_, subst}
 use mathlib.Core.List.{List, [], _∷_}
 use mathlib.Core.Bool.{Bool, true, false, cond}
 use native.Mathlib.Omega.{arith}
 use lib.Dec.{eqb, ltb}
-use borrow.Author.Tests.{ltb-true, ltb-false}
+use borrow.Author.Tests.{ltb-true, ltb-false, eqb-true, eqb-false, eq-eqb, ne-eqb}
 use lib.ListN.{length, getD, set, length-set}
 use lib.Seq.{getD-set-same, getD-set-other}
 use Rattle.error.specs.declared.Refusal.{Refusal}
@@ -13,6 +13,7 @@ use Rattle.error.specs.Answer.{Out, refused, done}
 use mathlib.Core.Option.{none, some}
 use Rattle.ast.specs.Tree.{Proto, Ip, Expr}
 use Rattle.ast.specs.Record.{protos, portProtoOf}
+use Rattle.ast.specs.File.{countOf}
 use Rattle.ast.proofs.Proper.{Word, Proper}
 use Rattle.codegen.specs.declared.L4Set.{L4Set}
 use Rattle.codegen.specs.declared.L4Set.the-variants.{One, TcpOrUdp}
@@ -22,14 +23,14 @@ use Rattle.codegen.specs.declared.Ports.{Ports}
 use Rattle.codegen.specs.declared.Ports.the-variants.{NotReady, ReadyOne, ReadyTcpOrUdp}
 use Rattle.codegen.specs.declared.GuardSet.{GuardSet}
 use Rattle.codegen.specs.Protocols.{l4setFor}
-use Rattle.codegen.specs.Facts.{ready}
+use Rattle.codegen.specs.Facts.{ready, both, or, bothPorts, orPorts}
 use Rattle.codegen.specs.Guards.{requiredGuards, setOf, portGuards}
 use Rattle.codegen.proofs.Shape.{SmallKnown, SmallPorts, SmallGuards, guards-small}
 use Rattle.facts.specs.declared.SetResult.the-variants as Set
 use Rattle.facts.specs.Sets.{setResult}
 use Rattle.reader.specs.Reader.{treeOf, endOf}
-use Rattle.guards.specs.declared.Required.{Required}
-use Rattle.guards.specs.Notes.{knownNumber, portsNumber, Note, Readable, Wrote, Noted, Requires}
+use Rattle.reader.proofs.Here.{TwoParts}
+use Rattle.guards.specs.Notes.{knownNumber, portsNumber, Note, Readable, Stored, Wrote, joinNumber, joinGuards, Parts, Joins, Noted, Next}
 
 -- ---- a number says one thing
 
@@ -89,75 +90,6 @@ readable t n p few long =
       ports = omega (arith, n .ports, ports-small (g .«port_prereqs») (s .ports));
     }
 
--- ---- notes that stay
-
-note-kept : {M M′ : List ℕ} {i e : ℕ} {g : GuardSet} → ((j : ℕ) → 5 * i ≤ j → j < 5 * i + 5 → getD M′ j 0 ≡ getD M j 0) → Note M i g e → Note M′ i g e
-note-kept {i = i} k n = record {
-  ethertype = k (5 * i) (omega arith) (omega arith) ∙ n .ethertype;
-  ip4 = k (5 * i + 1) (omega arith) (omega arith) ∙ n .ip4;
-  ip6 = k (5 * i + 2) (omega arith) (omega arith) ∙ n .ip6;
-  ports = k (5 * i + 3) (omega arith) (omega arith) ∙ n .ports;
-  ends = k (5 * i + 4) (omega arith) (omega arith) ∙ n .ends;
-}
-
-noted-kept : {s M M′ : List ℕ} {lo hi : ℕ} → ((j : ℕ) → 5 * lo ≤ j → j < 5 * hi → getD M′ j 0 ≡ getD M j 0) → Noted s M lo hi → Noted s M′ lo hi
-noted-kept k n = record { note = λ i l h. note-kept (λ j a b. k j (omega arith) (omega arith)) (n .note i l h) }
-
--- before a number, or not
-split : (P : Type 0) (i m : ℕ) → (i < m → P) → (m ≤ i → P) → P
-split P i m f g = by (ltb i m) refl
-  where
-    by : (b : Bool) → ltb i m ≡ b → P
-    by true e = f (ltb-true i m e)
-    by false e = g (ltb-false i m e)
-
-noted-join : {s M : List ℕ} {lo mid hi : ℕ} → Noted s M lo mid → Noted s M mid hi → Noted s M lo hi
-noted-join {mid = mid} a b = record { note = λ i l h. split _ i mid (λ x. a .note i l x) (λ x. b .note i x h) }
-
-noted-one : {s M : List ℕ} {i : ℕ} → Note M i (requiredGuards (treeOf s i)) (endOf s i) → Noted s M i (i + 1)
-noted-one {s} {M} {i} n = record { note = λ j l h. let e : i ≡ j = omega arith in subst (λ (k : ℕ). Note M k (requiredGuards (treeOf s k)) (endOf s k)) e n }
-
--- ---- a tree's notes
-
-module _ (s : List ℕ) {M M′ : List ℕ} {i : ℕ} {g : GuardSet} {e : ℕ} (w : Wrote M i g e M′) (hg : g ≡ requiredGuards (treeOf s i)) (he : e ≡ endOf s i) where
-  own : Note M′ i (requiredGuards (treeOf s i)) (endOf s i)
-  own = rw (← hg, ← he) (w .note)
-
-  -- its own note beside those of the records after it
-  whole : Noted s M (i + 1) (endOf s i) → Noted s M′ i (endOf s i)
-  whole n = noted-join (noted-one own) (noted-kept (λ j a b. w .after j (omega arith)) n)
-
-module _ {s M : List ℕ} {i : ℕ} where
-  -- of a condition
-  pub required-leaf : {M′ : List ℕ} {g : GuardSet} {e : ℕ} {r : Required} → Wrote M i g e M′ → g ≡ requiredGuards (treeOf s i) → e ≡ endOf s i → endOf s i ≡ i + 1
-      → r .guards ≡ g → r .next ≡ e → Requires s M i M′ r
-  required-leaf w hg he end a b = record {
-    guards = a ∙ hg;
-    next = b ∙ he;
-    noted = rw end (noted-one (own s w hg he));
-    before = w .before;
-  }
-
-  -- of one part
-  pub required-one : {M₁ M′ : List ℕ} {g : GuardSet} {e : ℕ} {l r : Required} → Requires s M (i + 1) M₁ l → Wrote M₁ i g e M′
-      → g ≡ requiredGuards (treeOf s i) → e ≡ endOf s i → endOf s i ≡ endOf s (i + 1) → r .guards ≡ g → r .next ≡ e → Requires s M i M′ r
-  required-one k w hg he end a b = record {
-    guards = a ∙ hg;
-    next = b ∙ he;
-    noted = whole s w hg he (rw end (k .noted));
-    before = λ j h. w .before j h ∙ k .before j (omega arith);
-  }
-
-  -- of two
-  pub required-two : {M₁ M₂ M′ : List ℕ} {g : GuardSet} {e : ℕ} {l q r : Required} → Requires s M (i + 1) M₁ l → Requires s M₁ (endOf s (i + 1)) M₂ q → Wrote M₂ i g e M′
-      → g ≡ requiredGuards (treeOf s i) → e ≡ endOf s i → endOf s i ≡ endOf s (endOf s (i + 1)) → i + 1 < endOf s (i + 1) → r .guards ≡ g → r .next ≡ e → Requires s M i M′ r
-  required-two k k₂ w hg he end later a b = record {
-    guards = a ∙ hg;
-    next = b ∙ he;
-    noted = whole s w hg he (rw end (noted-join (noted-kept (λ j x y. k₂ .before j y) (k .noted)) (k₂ .noted)));
-    before = λ j h. w .before j h ∙ k₂ .before j (omega arith) ∙ k .before j (omega arith);
-  }
-
 -- ---- five numbers stored in a row
 
 module _ (M : List ℕ) (n a b c d e : ℕ) (h : n + 5 ≤ length M) where
@@ -183,23 +115,139 @@ module _ (M : List ℕ) (n a b c d e : ℕ) (h : n + 5 ≤ length M) where
   past₁ : (j : ℕ) → (j ≡ n + 1 → ⊥) → (j ≡ n + 2 → ⊥) → (j ≡ n + 3 → ⊥) → (j ≡ n + 4 → ⊥) → getD row j 0 ≡ getD M₁ j 0
   past₁ j p q r s = past₃ j r s ∙ getD-set-other M₂ (n + 2) j c 0 q ∙ getD-set-other M₁ (n + 1) j b 0 p
 
-  other : (j : ℕ) → (j ≡ n → ⊥) → (j ≡ n + 1 → ⊥) → (j ≡ n + 2 → ⊥) → (j ≡ n + 3 → ⊥) → (j ≡ n + 4 → ⊥) → getD row j 0 ≡ getD M j 0
-  other j p q r s u = past₁ j q r s u ∙ getD-set-other M n j a 0 p
-
-  pub row-wrote : (i : ℕ) (g : GuardSet) (z : ℕ) → n ≡ 5 * i → a ≡ knownNumber (g .ethertype) → b ≡ knownNumber (g .«ip4_proto») → c ≡ knownNumber (g .«ip6_nh»)
-      → d ≡ portsNumber (g .«port_prereqs») → e ≡ z → Wrote M i g z row
-  row-wrote i g z n₀ a₀ b₀ c₀ d₀ e₀ =
+  pub row-stored : (i : ℕ) → n ≡ 5 * i → Stored M i a b c d e row
+  row-stored i n₀ =
       record {
-        note = record {
-          ethertype = rw (← n₀) (past₁ n (λ x. omega arith) (λ x. omega arith) (λ x. omega arith) (λ x. omega arith) ∙ getD-set-same M n a 0 (omega arith) ∙ a₀);
-          ip4 = rw (← n₀) (past₃ (n + 1) (λ x. omega arith) (λ x. omega arith) ∙ getD-set-other M₂ (n + 2) (n + 1) c 0 (λ x. omega arith) ∙ getD-set-same M₁ (n + 1) b 0 (simp length-set (omega arith)) ∙ b₀);
-          ip6 = rw (← n₀) (past₃ (n + 2) (λ x. omega arith) (λ x. omega arith) ∙ getD-set-same M₂ (n + 2) c 0 (simp length-set (omega arith)) ∙ c₀);
-          ports = rw (← n₀) (getD-set-other M₄ (n + 4) (n + 3) e 0 (λ x. omega arith) ∙ getD-set-same M₃ (n + 3) d 0 (simp length-set (omega arith)) ∙ d₀);
-          ends = rw (← n₀) (getD-set-same M₄ (n + 4) e 0 (simp length-set (omega arith)) ∙ e₀);
-        };
-        before = λ j l. other j (λ x. omega arith) (λ x. omega arith) (λ x. omega arith) (λ x. omega arith) (λ x. omega arith);
-        after = λ j l. other j (λ x. omega arith) (λ x. omega arith) (λ x. omega arith) (λ x. omega arith) (λ x. omega arith);
+        ethertype = rw (← n₀) (past₁ n (λ x. omega arith) (λ x. omega arith) (λ x. omega arith) (λ x. omega arith) ∙ getD-set-same M n a 0 (omega arith));
+        ip4 = rw (← n₀) (past₃ (n + 1) (λ x. omega arith) (λ x. omega arith) ∙ getD-set-other M₂ (n + 2) (n + 1) c 0 (λ x. omega arith) ∙ getD-set-same M₁ (n + 1) b 0 (simp length-set (omega arith)));
+        ip6 = rw (← n₀) (past₃ (n + 2) (λ x. omega arith) (λ x. omega arith) ∙ getD-set-same M₂ (n + 2) c 0 (simp length-set (omega arith)));
+        ports = rw (← n₀) (getD-set-other M₄ (n + 4) (n + 3) e 0 (λ x. omega arith) ∙ getD-set-same M₃ (n + 3) d 0 (simp length-set (omega arith)));
+        ends = rw (← n₀) (getD-set-same M₄ (n + 4) e 0 (simp length-set (omega arith)));
+        after = λ j l. past₁ j (λ x. omega arith) (λ x. omega arith) (λ x. omega arith) (λ x. omega arith) ∙ getD-set-other M n j a 0 (λ x. omega arith);
       }
+
+-- ---- the numbers of a join
+
+eqb-plus : (k v w : ℕ) → eqb (v + k) (w + k) ≡ eqb v w
+eqb-plus k v w = by (eqb v w) refl
+  where
+    by : (b : Bool) → eqb v w ≡ b → eqb (v + k) (w + k) ≡ b
+    by true e = eq-eqb (v + k) (w + k) (ap (λ (n : ℕ). n + k) (eqb-true v w e))
+    by false e = ne-eqb (v + k) (w + k) (λ z. eqb-false v w e (omega arith))
+
+no-number : (b : Bool) → _≡_ {A = ℕ} (cond b 0 0) 0
+no-number true = refl
+no-number false = refl
+
+join-known : (isAnd : Bool) (x y : Known) → joinNumber isAnd (knownNumber x) (knownNumber y) ≡ knownNumber (cond isAnd (or x y) (both x y))
+join-known true Unknown y = refl
+join-known true (Is v) y = rw (ne-eqb (v + 1) 0 (λ z. omega arith))
+join-known false Unknown y = no-number (eqb 0 (knownNumber y))
+join-known false (Is v) Unknown = rw (ne-eqb (v + 1) 0 (λ z. omega arith))
+join-known false (Is v) (Is w) = rw (eqb-plus 1 v w) (by (eqb v w))
+  where
+    by : (b : Bool) → cond b (v + 1) 0 ≡ knownNumber (cond b (Is v) Unknown)
+    by true = refl
+    by false = refl
+
+join-ports : (isAnd : Bool) (x y : Ports) → joinNumber isAnd (portsNumber x) (portsNumber y) ≡ portsNumber (cond isAnd (orPorts x y) (bothPorts x y))
+join-ports true NotReady y = refl
+join-ports true (ReadyOne n) y = rw (ne-eqb (n + 2) 0 (λ z. omega arith))
+join-ports true ReadyTcpOrUdp y = refl
+join-ports false NotReady y = no-number (eqb 0 (portsNumber y))
+join-ports false (ReadyOne n) NotReady = rw (ne-eqb (n + 2) 0 (λ z. omega arith))
+join-ports false (ReadyOne n) ReadyTcpOrUdp = rw (ne-eqb (n + 2) 1 (λ z. omega arith))
+join-ports false (ReadyOne n) (ReadyOne m) = rw (eqb-plus 2 n m) (by (eqb n m))
+  where
+    by : (b : Bool) → cond b (n + 2) 0 ≡ portsNumber (cond b (ReadyOne n) NotReady)
+    by true = refl
+    by false = refl
+join-ports false ReadyTcpOrUdp NotReady = refl
+join-ports false ReadyTcpOrUdp ReadyTcpOrUdp = refl
+join-ports false ReadyTcpOrUdp (ReadyOne m) = rw (ne-eqb 1 (m + 2) (λ z. omega arith))
+
+-- and their guards, field by field
+join-fields : (isAnd : Bool) (g h : GuardSet)
+    → joinGuards isAnd g h
+    ≡ record { ethertype = cond isAnd (or (g .ethertype) (h .ethertype)) (both (g .ethertype) (h .ethertype)); «ip4_proto» = cond isAnd (or (g .«ip4_proto») (h .«ip4_proto»)) (both (g .«ip4_proto») (h .«ip4_proto»)); «ip6_nh» = cond isAnd (or (g .«ip6_nh») (h .«ip6_nh»)) (both (g .«ip6_nh») (h .«ip6_nh»)); «port_prereqs» = cond isAnd (orPorts (g .«port_prereqs») (h .«port_prereqs»)) (bothPorts (g .«port_prereqs») (h .«port_prereqs»)) }
+join-fields true g h = refl
+join-fields false g h = refl
+
+-- ---- what is written
+
+module _ {M M′ : List ℕ} {i : ℕ} where
+  -- the numbers of guards
+  pub stored-wrote : {a b c d e : ℕ} {g : GuardSet} → Stored M i a b c d e M′ → a ≡ knownNumber (g .ethertype) → b ≡ knownNumber (g .«ip4_proto») → c ≡ knownNumber (g .«ip6_nh»)
+      → d ≡ portsNumber (g .«port_prereqs») → Wrote M i g e M′
+  stored-wrote w a₀ b₀ c₀ d₀ = record { note = record { ethertype = w .ethertype ∙ a₀; ip4 = w .ip4 ∙ b₀; ip6 = w .ip6 ∙ c₀; ports = w .ports ∙ d₀; ends = w .ends }; after = w .after }
+
+  -- those of two parts joined
+  pub stored-joins : (isAnd : Bool) {r : ℕ} → r ≡ getD M (5 * (i + 1) + 4) 0
+      → Stored M i (joinNumber isAnd (getD M (5 * (i + 1)) 0) (getD M (5 * r) 0)) (joinNumber isAnd (getD M (5 * (i + 1) + 1) 0) (getD M (5 * r + 1) 0))
+      (joinNumber isAnd (getD M (5 * (i + 1) + 2) 0) (getD M (5 * r + 2) 0)) (joinNumber isAnd (getD M (5 * (i + 1) + 3) 0) (getD M (5 * r + 3) 0)) (getD M (5 * r + 4) 0) M′
+      → Joins isAnd M i M′
+  stored-joins isAnd {r} at w = record { wrote = λ g h m e l n. joined g h e l (subst (λ (k : ℕ). Note M k h e) (sym (l .ends) ∙ sym at) n) }
+    where
+      joined : (g h : GuardSet) {m : ℕ} (e : ℕ) → Note M (i + 1) g m → Note M r h e → Wrote M i (joinGuards isAnd g h) e M′
+      joined g h e l n =
+          rw (← n .ends, join-fields isAnd g h)
+          (stored-wrote w (ap₂ (joinNumber isAnd) (l .ethertype) (n .ethertype) ∙ join-known isAnd (g .ethertype) (h .ethertype))
+          (ap₂ (joinNumber isAnd) (l .ip4) (n .ip4) ∙ join-known isAnd (g .«ip4_proto») (h .«ip4_proto»))
+          (ap₂ (joinNumber isAnd) (l .ip6) (n .ip6) ∙ join-known isAnd (g .«ip6_nh») (h .«ip6_nh»))
+          (ap₂ (joinNumber isAnd) (l .ports) (n .ports) ∙ join-ports isAnd (g .«port_prereqs») (h .«port_prereqs»)))
+
+-- ---- the notes of a file, from the last record back
+
+-- before a number, or not
+split : (P : Type 0) (i m : ℕ) → (i < m → P) → (m ≤ i → P) → P
+split P i m f g = by (ltb i m) refl
+  where
+    by : (b : Bool) → ltb i m ≡ b → P
+    by true e = f (ltb-true i m e)
+    by false e = g (ltb-false i m e)
+
+note-kept : {M M′ : List ℕ} {i e : ℕ} {g : GuardSet} → ((j : ℕ) → 5 * i ≤ j → getD M′ j 0 ≡ getD M j 0) → Note M i g e → Note M′ i g e
+note-kept {i = i} k n = record {
+  ethertype = k (5 * i) (omega arith) ∙ n .ethertype;
+  ip4 = k (5 * i + 1) (omega arith) ∙ n .ip4;
+  ip6 = k (5 * i + 2) (omega arith) ∙ n .ip6;
+  ports = k (5 * i + 3) (omega arith) ∙ n .ports;
+  ends = k (5 * i + 4) (omega arith) ∙ n .ends;
+}
+
+-- none yet
+pub noted-none : {s M : List ℕ} {n : ℕ} → Noted s M n n
+noted-none = record { note = λ i l h. absurd (omega arith) }
+
+module _ {s M : List ℕ} {i : ℕ} (x : Next s M i) where
+  -- one more
+  pub noted-next : {M′ : List ℕ} {g : GuardSet} {e : ℕ} → Wrote M i g e M′ → g ≡ requiredGuards (treeOf s i) → e ≡ endOf s i → Noted s M′ i (countOf s)
+  noted-next {M′} w hg he = record {
+    note = λ j l h. split _ j (i + 1)
+        (λ b. let q : i ≡ j = omega arith in subst (λ (k : ℕ). Note M′ k (requiredGuards (treeOf s k)) (endOf s k)) q (rw (← hg, ← he) (w .note)))
+        (λ a. note-kept (λ k y. w .after k (omega arith)) (x .noted .note j a h));
+  }
+
+  module _ (join : Expr → Expr → Expr) (p : TwoParts join s i) where
+    left-noted : Note M (i + 1) (requiredGuards (treeOf s (i + 1))) (endOf s (i + 1))
+    left-noted = x .noted .note (i + 1) (omega arith) (p .left .within)
+
+    pub parts-noted : Parts M i
+    parts-noted =
+        let e = left-noted .ends in
+        record {
+          left = omega (arith, x .long, p .left .within);
+          right = omega (arith, e, x .long, p .right .within);
+          few = omega (arith, p .left .within, p .left .most);
+          fewer = omega (arith, e, p .right .within, p .right .most);
+        }
+
+    pub join-next : {M′ : List ℕ} (isAnd : Bool) → Joins isAnd M i M′
+        → requiredGuards (join (treeOf s (i + 1)) (treeOf s (endOf s (i + 1)))) ≡ joinGuards isAnd (requiredGuards (treeOf s (i + 1))) (requiredGuards (treeOf s (endOf s (i + 1))))
+        → Noted s M′ i (countOf s)
+    join-next isAnd j e =
+        noted-next (j .wrote _ _ _ _ left-noted (x .noted .note (endOf s (i + 1)) (omega (arith, p .left .later)) (p .right .within)))
+        (sym (ap requiredGuards (p .tree) ∙ e)) (sym (p .end))
 
 -- ---- sets of ports
 

@@ -2,6 +2,8 @@
 use Prim.Native.Nat.{ℕ, _+_, _*_, _≤_, _<_}
 use mathlib.Core.Path.{_≡_}
 use mathlib.Core.List.{List}
+use mathlib.Core.Bool.{Bool, true, false, cond}
+use lib.Dec.{eqb}
 use lib.ListN.{length, getD}
 use Rattle.codegen.specs.declared.L4Set.the-variants.{One, TcpOrUdp}
 use Rattle.codegen.specs.declared.Known.{Known}
@@ -9,9 +11,10 @@ use Rattle.codegen.specs.declared.Known.the-variants.{Unknown, Is}
 use Rattle.codegen.specs.declared.Ports.{Ports}
 use Rattle.codegen.specs.declared.Ports.the-variants.{NotReady, ReadyOne, ReadyTcpOrUdp}
 use Rattle.codegen.specs.declared.GuardSet.{GuardSet}
+use Rattle.codegen.specs.Facts.{union, intersect}
 use Rattle.codegen.specs.Guards.{requiredGuards}
-use Rattle.reader.specs.Reader.{treeOf, endOf}
-use Rattle.guards.specs.declared.Required.{Required}
+use Rattle.reader.specs.Reader.{Here, treeOf, endOf}
+use Rattle.ast.specs.File.{countOf}
 
 -- 0 where nothing is known
 abbrev pub knownNumber : Known → ℕ
@@ -40,19 +43,46 @@ pub record Readable (M : List ℕ) (i : ℕ) : Type 0 where
   pub ip6 : getD M (5 * i + 2) 0 ≤ 4294967296
   pub ports : getD M (5 * i + 3) 0 ≤ 4294967297
 
--- what `note` leaves: the note of record i, and the others as they were
+-- what `store` leaves: the note of record i has these numbers, and the others are as they were
+pub record Stored (M : List ℕ) (i a b c d e : ℕ) (M′ : List ℕ) : Type 0 where
+  pub ethertype : getD M′ (5 * i) 0 ≡ a
+  pub ip4 : getD M′ (5 * i + 1) 0 ≡ b
+  pub ip6 : getD M′ (5 * i + 2) 0 ≡ c
+  pub ports : getD M′ (5 * i + 3) 0 ≡ d
+  pub ends : getD M′ (5 * i + 4) 0 ≡ e
+  pub after : (j : ℕ) → 5 * i + 5 ≤ j → getD M′ j 0 ≡ getD M j 0
+
+-- what `note` leaves: the note of record i, and those after it as they were
 pub record Wrote (M : List ℕ) (i : ℕ) (g : GuardSet) (e : ℕ) (M′ : List ℕ) : Type 0 where
   pub note : Note M′ i g e
-  pub before : (j : ℕ) → j < 5 * i → getD M′ j 0 ≡ getD M j 0
   pub after : (j : ℕ) → 5 * i + 5 ≤ j → getD M′ j 0 ≡ getD M j 0
+
+-- what an and requires, or an or, by the numbers of what its parts do: the left one's before the right one's, or what both have
+abbrev pub joinNumber : Bool → ℕ → ℕ → ℕ
+joinNumber true a b = cond (eqb a 0) b a
+joinNumber false a b = cond (eqb a b) a 0
+
+abbrev pub joinGuards : Bool → GuardSet → GuardSet → GuardSet
+joinGuards true g h = union g h
+joinGuards false g h = intersect g h
+
+-- the two parts of a join at record i can be read
+pub record Parts (M : List ℕ) (i : ℕ) : Type 0 where
+  pub left : 5 * i + 10 ≤ length M
+  pub right : 5 * getD M (5 * (i + 1) + 4) 0 + 5 ≤ length M
+  pub few : i + 1 < 128
+  pub fewer : getD M (5 * (i + 1) + 4) 0 < 128
+
+-- what `note_join` leaves
+pub record Joins (isAnd : Bool) (M : List ℕ) (i : ℕ) (M′ : List ℕ) : Type 0 where
+  pub wrote : (g h : GuardSet) (m e : ℕ) → Note M (i + 1) g m → Note M m h e → Wrote M i (joinGuards isAnd g h) e M′
 
 -- the notes of the records from lo up to hi are those of the file s
 pub record Noted (s M : List ℕ) (lo hi : ℕ) : Type 0 where
   pub note : (i : ℕ) → lo ≤ i → i < hi → Note M i (requiredGuards (treeOf s i)) (endOf s i)
 
--- what `required_guards` leaves: its answer, its notes, and the notes before them as they were
-pub record Requires (s M : List ℕ) (i : ℕ) (M′ : List ℕ) (r : Required) : Type 0 where
-  pub guards : r .guards ≡ requiredGuards (treeOf s i)
-  pub next : r .next ≡ endOf s i
-  pub noted : Noted s M′ i (endOf s i)
-  pub before : (j : ℕ) → j < 5 * i → getD M′ j 0 ≡ getD M j 0
+-- a tree stands at record i of the file s, and the records after it are noted
+pub record Next (s M : List ℕ) (i : ℕ) : Type 0 where
+  pub here : Here s i
+  pub long : 5 * countOf s ≤ length M
+  pub noted : Noted s M (i + 1) (countOf s)

@@ -9,16 +9,9 @@ ghost use lib.ListN.{length, getD};
 ghost use Rattle.ast.specs.Record.{portProtoOf};
 ghost use Rattle.ast.specs.File.{countOf};
 ghost use Rattle.codegen.specs.declared.Known.the-variants.{Unknown, Is};
-ghost use Rattle.codegen.specs.Facts as F;
 ghost use Rattle.codegen.specs.Guards as G;
 ghost use Rattle.reader.specs.Reader.{leafAt, Here, LeafHere};
 ghost use Rattle.guards.specs.Notes as N;
-
-// The guards that a tree requires on every accepting path, and where it ends.
-pub struct Required {
-    pub guards: GuardSet,
-    pub next: usize,
-}
 
 // ---- notes
 
@@ -64,25 +57,33 @@ fn ports_of(n: u64) -> Ports
     Ports::ReadyOne((n - 2) as u32)
 }
 
-// Notes what record i requires and where it ends.
-fn note(notes: &mut [u64], i: usize, guards: GuardSet, next: usize) -> Required
+// Stores the five numbers of record i's note.
+fn store(notes: &mut [u64], i: usize, ethertype: u64, ip4: u64, ip6: u64, ports: u64, end: u64)
     requires { ⌜ (5 * i + 5 ≤ length (now notes)) × (i < 128) ⌝ }
-    ensures { λ r. ⌜ N.Wrote (now (notes .entry)) i guards next (now (notes .exit)) × (r .guards ≡ guards) × (r .next ≡ next) ⌝ }
+    ensures { λ _. ⌜ N.Stored (now (notes .entry)) i ethertype ip4 ip6 ports «end» (now (notes .exit)) ⌝ }
+{
+    let at = 5 * i;
+    notes[at] = ethertype;
+    notes[at + 1] = ip4;
+    notes[at + 2] = ip6;
+    notes[at + 3] = ports;
+    notes[at + 4] = end;
+}
+
+// Notes what record i requires and where its tree ends.
+fn note(notes: &mut [u64], i: usize, guards: GuardSet, end: usize)
+    requires { ⌜ (5 * i + 5 ≤ length (now notes)) × (i < 128) ⌝ }
+    ensures { λ _. ⌜ N.Wrote (now (notes .entry)) i guards «end» (now (notes .exit)) ⌝ }
 {
     let ethertype = guards.ethertype;
     let ip4 = guards.ip4_proto;
     let ip6 = guards.ip6_nh;
     let ports = guards.port_prereqs;
-    let at = 5 * i;
-    notes[at] = known_number(ethertype);
-    notes[at + 1] = known_number(ip4);
-    notes[at + 2] = known_number(ip6);
-    notes[at + 3] = ports_number(ports);
-    notes[at + 4] = next as u64;
-    Required {
-        guards: guards,
-        next: next,
-    }
+    let e = known_number(ethertype);
+    let v4 = known_number(ip4);
+    let v6 = known_number(ip6);
+    let l4 = ports_number(ports);
+    store(notes, i, e, v4, v6, l4, end as u64);
 }
 
 pub fn noted_guards(notes: &[u64], i: usize) -> GuardSet
@@ -163,7 +164,7 @@ fn ip6_guards(n: u32) -> GuardSet
 }
 
 // The guards of the condition at record i.
-pub fn primitive_guards(tree: &[u8], i: usize) -> GuardSet
+fn primitive_guards(tree: &[u8], i: usize) -> GuardSet
     requires { ⌜ LeafHere (now tree) i ⌝ }
     ensures { λ r. ⌜ r ≡ G.primitiveGuards (leafAt (now (tree .entry)) i) ⌝ }
 {
@@ -187,48 +188,66 @@ pub fn primitive_guards(tree: &[u8], i: usize) -> GuardSet
     }
 }
 
-// "A negated check proves nothing about what its parent requires", whatever the inner tree requires.
-fn negated(_inner: GuardSet) -> GuardSet
-    ensures { λ r. ⌜ r ≡ F.noGuards ⌝ }
+// What a join requires, by the numbers of what its parts do: codegen.rs `union` of an and, `intersect` of an or.
+fn join_number(is_and: bool, a: u64, b: u64) -> u64
+    ensures { λ r. ⌜ r ≡ N.joinNumber «is_and» a b ⌝ }
 {
-    let none = facts::no_guards();
-    none
+    if is_and {
+        if a == 0 {
+            return b;
+        }
+        return a;
+    }
+    if a == b {
+        return a;
+    }
+    0
 }
 
-// The guards of the tree at record i, noted with those of every tree in it.
-pub fn required_guards(tree: &[u8], notes: &mut [u64], i: usize) -> Required
-    requires { ⌜ Here (now tree) i × (5 * countOf (now tree) ≤ length (now notes)) ⌝ }
-    ensures { λ r. ⌜ N.Requires (now (tree .entry)) (now (notes .entry)) i (now (notes .exit)) r ⌝ }
+// Notes the join at record i, from the notes of its parts.
+fn note_join(notes: &mut [u64], i: usize, is_and: bool)
+    requires { ⌜ N.Parts (now notes) i ⌝ }
+    ensures { λ _. ⌜ N.Joins «is_and» (now (notes .entry)) i (now (notes .exit)) ⌝ }
+{
+    let l = 5 * (i + 1);
+    let r = 5 * noted_end(notes, i + 1);
+    let ethertype = join_number(is_and, notes[l], notes[r]);
+    let ip4 = join_number(is_and, notes[l + 1], notes[r + 1]);
+    let ip6 = join_number(is_and, notes[l + 2], notes[r + 2]);
+    let ports = join_number(is_and, notes[l + 3], notes[r + 3]);
+    let end = notes[r + 4];
+    store(notes, i, ethertype, ip4, ip6, ports, end);
+}
+
+// Notes record i, where those after it are noted. "A negated check proves nothing about what its parent requires".
+fn note_record(tree: &[u8], notes: &mut [u64], i: usize)
+    requires { ⌜ N.Next (now tree) (now notes) i ⌝ }
+    ensures { λ _. ⌜ N.Noted (now (tree .entry)) (now (notes .exit)) i (countOf (now (tree .entry))) ⌝ }
 {
     let kind = reader::byte_at(tree, i, 0);
     match kind {
-        1 => {
-            let l = required_guards(tree, notes, i + 1);
-            let m = l.next;
-            let r = required_guards(tree, notes, m);
-            let g = l.guards;
-            let h = r.guards;
-            let u = facts::union(g, h);
-            note(notes, i, u, r.next)
-        }
-        2 => {
-            let l = required_guards(tree, notes, i + 1);
-            let m = l.next;
-            let r = required_guards(tree, notes, m);
-            let g = l.guards;
-            let h = r.guards;
-            let u = facts::intersect(g, h);
-            note(notes, i, u, r.next)
-        }
+        1 => note_join(notes, i, true),
+        2 => note_join(notes, i, false),
         3 => {
-            let t = required_guards(tree, notes, i + 1);
-            let g = t.guards;
-            let u = negated(g);
-            note(notes, i, u, t.next)
+            let end = noted_end(notes, i + 1);
+            let none = facts::no_guards();
+            note(notes, i, none, end)
         }
         _ => {
-            let u = primitive_guards(tree, i);
-            note(notes, i, u, i + 1)
+            let guards = primitive_guards(tree, i);
+            note(notes, i, guards, i + 1)
         }
+    }
+}
+
+// The guards of each tree in a file of n records, noted from the last record back.
+pub fn required_guards(tree: &[u8], notes: &mut [u64], n: usize)
+    requires { ⌜ Here (now tree) 0 × (n ≡ countOf (now tree)) × (5 * n ≤ length (now notes)) ⌝ }
+    ensures { λ _. ⌜ N.Noted (now (tree .entry)) (now (notes .exit)) 0 n ⌝ }
+{
+    let mut i = n;
+    while 0 < i {
+        i -= 1;
+        note_record(tree, notes, i);
     }
 }

@@ -31,7 +31,8 @@ use Rattle.reader.proofs.ByKind.{kind10, kind11, kind12, kind13, kind14, kind15
 use Rattle.guards.proofs.Noting.{set-any}
 use Rattle.emit.specs.Lines.{opOf}
 use Rattle.conditions.specs.declared.Mask.the-variants.{Whole, Under}
-use Rattle.conditions.specs.Loads.{load, macBlock}
+use Rattle.conditions.specs.declared.Version.the-variants.{V4, V6}
+use Rattle.conditions.specs.Loads.{load, macBlock, emitVersion}
 use Rattle.ports.specs.Hoist.{portedBy}
 use Rattle.primitives.specs.Kinds.{PortKind, Simple, prefixOf, rowEmit, guardsEmit}
 
@@ -150,11 +151,21 @@ module _ {s : List ℕ} {i : ℕ} (h : LeafHere s i) (L : LinkType) (g : Facts) 
             let k : be 1 (place i) s ≡ 16 = omega arith in
             rw (kind16 h k, denied e)
 
-  -- the kinds that are emitted by their guards: 10, 23, 24
-  pub by-guards : {kind : ℕ} → Simple s i kind → (kind ≡ 18 → ⊥) → (kind ≡ 19 → ⊥) → (kind ≡ 20 → ⊥) → (kind ≡ 21 → ⊥) → (kind ≡ 22 → ⊥)
-      → emitPrimitive L (leafAt s i) g ≡ guardsEmit L (primitiveGuards (leafAt s i)) g
-  unfolding emitPrimitive primitiveGuards
-  by-guards {kind} w n18 n19 n20 n21 n22 = by (eqb kind 10) (eqb kind 23) refl refl
+  -- a protocol by its row
+  pub protocol : {p n : ℕ} → be 1 (place i) s ≡ 10 → p ≡ be 1 (place i + 2) s → n ≡ be 1 (place i + 3) s
+      → emitPrimitive L (leafAt s i) g ≡ guardsEmit L (primitiveGuards (Protocol (protoOf p n))) g
+  protocol k p₀ n₀ = rw (kind10 h k, p₀, n₀) (proto-row L (protoOf (be 1 (place i + 2) s) (be 1 (place i + 3) s)) g)
+
+  -- a protocol chain: for IPv4, and for IPv6, the kind that is left
+  pub chain4 : {n : ℕ} → be 1 (place i) s ≡ 23 → n ≡ be 1 (place i + 3) s → emitPrimitive L (leafAt s i) g ≡ emitVersion L V4 n g
+  unfolding emitPrimitive
+  chain4 k n₀ = rw (kind23 h k, n₀)
+
+  pub chain6 : {kind n : ℕ} → Simple s i kind → (kind ≡ 10 → ⊥) → (kind ≡ 18 → ⊥) → (kind ≡ 19 → ⊥) → (kind ≡ 20 → ⊥) → (kind ≡ 21 → ⊥) → (kind ≡ 22 → ⊥) → (kind ≡ 23 → ⊥)
+      → n ≡ be 1 (place i + 3) s → emitPrimitive L (leafAt s i) g ≡ emitVersion L V6 n g
+  unfolding emitPrimitive
+  chain6 {kind} w n10 n18 n19 n20 n21 n22 n23 n₀ =
+      rw (kind24 h (not n10) (other 11 (omega arith) (omega arith)) (other 12 (omega arith) (omega arith)) (other 13 (omega arith) (omega arith)) (other 14 (omega arith) (omega arith)) (other 15 (omega arith) (omega arith)) (other 16 (omega arith) (omega arith)) (other 17 (omega arith) (omega arith)) (not n18) (not n19) (not n20) (not n21) (not n22) (not n23), n₀)
     where
       not : {n : ℕ} → (kind ≡ n → ⊥) → be 1 (place i) s ≡ n → ⊥
       not f e = f (w .is ∙ e)
@@ -162,9 +173,3 @@ module _ {s : List ℕ} {i : ℕ} (h : LeafHere s i) (L : LinkType) (g : Facts) 
       -- none of 11 to 17
       other : (n : ℕ) → 11 ≤ n → n ≤ 17 → be 1 (place i) s ≡ n → ⊥
       other n l u e = let z = w .is ∙ e in let y = w .other (omega arith) in omega arith
-
-      by : (b c : Bool) → eqb kind 10 ≡ b → eqb kind 23 ≡ c → emitPrimitive L (leafAt s i) g ≡ guardsEmit L (primitiveGuards (leafAt s i)) g
-      by true c p q = rw (kind10 h (sym (w .is) ∙ eqb-true kind 10 p)) (proto-row L (protoOf (be 1 (place i + 2) s) (be 1 (place i + 3) s)) g)
-      by false true p q = rw (kind23 h (sym (w .is) ∙ eqb-true kind 23 q))
-      by false false p q =
-          rw (kind24 h (not (eqb-false kind 10 p)) (other 11 (omega arith) (omega arith)) (other 12 (omega arith) (omega arith)) (other 13 (omega arith) (omega arith)) (other 14 (omega arith) (omega arith)) (other 15 (omega arith) (omega arith)) (other 16 (omega arith) (omega arith)) (other 17 (omega arith) (omega arith)) (not n18) (not n19) (not n20) (not n21) (not n22) (not (eqb-false kind 23 q)))

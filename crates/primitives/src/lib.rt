@@ -151,7 +151,7 @@ fn emit_ports(
     }
 }
 
-// Kinds 18 to 24, and 10.
+// Kinds 10 and 18 to 24.
 fn emit_simple(
     tree: &[u8],
     i: usize,
@@ -166,6 +166,12 @@ fn emit_simple(
     ensures { λ r. ⌜ ReplyFailure (E.emitPrimitive link (leafAt (now (tree .entry)) i) facts) (now (insns .entry)) (now (failure .entry)) p (now (insns .exit)) (now (failure .exit)) r ⌝ }
 {
     match kind {
+        10 => {
+            let protocol = reader::byte_at(tree, i, 2);
+            let small = reader::byte_at(tree, i, 3);
+            let row = facts::protocol_guards(protocol, small);
+            emit_proto(link, insns, failure, p, facts, row)
+        }
         18 => conditions::emit_ethertype(
             link,
             insns,
@@ -178,9 +184,13 @@ fn emit_simple(
         20 => conditions::emit_ip_broadcast(link, insns, failure, p, facts),
         21 => conditions::emit_ip_multicast(link, insns, failure, p, facts),
         22 => conditions::emit_ip6_multicast(link, insns, failure, p, facts),
+        23 => {
+            let n = reader::byte_at(tree, i, 3) as u32;
+            conditions::emit_l4(link, insns, failure, p, facts, Version::V4, n)
+        }
         _ => {
-            let row = guards::primitive_guards(tree, i);
-            emit_proto(link, insns, failure, p, facts, row)
+            let n = reader::byte_at(tree, i, 3) as u32;
+            conditions::emit_l4(link, insns, failure, p, facts, Version::V6, n)
         }
     }
 }

@@ -1,7 +1,7 @@
 -- A tree that stands at a record: its parts stand at the records after it.
-use Prim.Native.Nat.{ℕ, suc, _+_, _*_, _-_, _≤_}
-use mathlib.Core.Path.{_≡_, refl, sym, ap, ap₂, _∙_}
-use mathlib.Core.List.{List, _∷_}
+use Prim.Native.Nat.{ℕ, zero, suc, _+_, _*_, _-_, _≤_, _<_}
+use mathlib.Core.Path.{_≡_, refl, sym, ap, ap₂, _∙_, subst}
+use mathlib.Core.List.{List, [], _∷_}
 use native.Mathlib.Omega.{arith}
 use lib.ListN.{length}
 use borrow.Author.Tests.{ne-eqb}
@@ -11,7 +11,7 @@ use Rattle.ast.specs.Tree.{Expr, Leaf, And, Or, Not, records}
 use Rattle.ast.specs.Record.{recordAt, Node, AndNode, OrNode, NotNode, LeafNode, kinds, nodeAt}
 use Rattle.ast.specs.File.{countOf, nodesAt, treesOf}
 use Rattle.ast.proofs.Prefix.{prefixes, prefixes-of, trees-prefixes}
-use Rattle.ast.proofs.Walk.{node, parts, Stands, stands, stands-first, stands-rest}
+use Rattle.ast.proofs.Walk.{node, parts, Stands, stands, stands-none, stands-first, stands-rest}
 use Rattle.reader.specs.Reader.{place, forest, treeOf, endOf, conditionOf, leafAt, Here, LeafHere}
 use Rattle.reader.specs.Checking.{partsOf}
 use Rattle.reader.proofs.Nodes.{asks, node-asks, kindBy, node-is}
@@ -101,6 +101,18 @@ module _ {s : List ℕ} {i : ℕ} where
   unfolding forest
   here-from h =
       record { most = h .most; whole = h .whole; last = omega arith; stands = record { nodes = read (nodesAt (countOf s - i) (place i) s) (treeOf s i ∷ h .rest) (h .stands) } }
+
+-- a tree stands at each record after the first, if one stands there
+first-here : {s : List ℕ} {i : ℕ} (ts : List Expr) → From s i ts → i < countOf s → Here s i
+first-here [] k l = absurd (omega (arith, stands-none (k .stands)))
+first-here (t ∷ ts) k l = from-here k
+
+pub here-each : {s : List ℕ} (i : ℕ) → Here s 0 → i < countOf s → Here s i
+here-each zero h l = h
+here-each {s} (suc i) h l =
+    let k = here-each i h (omega arith) in
+    let e : i + 1 ≡ suc i = omega arith in
+    subst (Here s) e (first-here (parts (treeOf s i) (k .rest)) (from-first (here-from k)) (omega arith))
 
 -- ---- by the kind of a record
 
