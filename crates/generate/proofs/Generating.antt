@@ -115,6 +115,7 @@ ready {s} most c few m y n cap =
 pub lined : {s I b : List ℕ} (most : ℕ) → Stands s → File.countOf s ≤ most → linesOf most + 2 ≤ length I → Lined s I b
 lined {s} most c few i = record { reach = λ k. omega (arith, most-lines s most c few) }
 
+-- none are asked for where the part is empty
 pub lined-none : {s I b : List ℕ} → length b ≡ 0 → Lined s I b
 lined-none e = record { reach = λ k. absurd (omega arith) }
 

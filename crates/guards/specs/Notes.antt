@@ -43,7 +43,7 @@ pub record Readable (M : List ℕ) (i : ℕ) : Type 0 where
   pub ip6 : getD M (5 * i + 2) 0 ≤ 4294967296
   pub ports : getD M (5 * i + 3) 0 ≤ 4294967297
 
--- what `store` leaves: the note of record i has these numbers, and the others are as they were
+-- what `store` leaves: the note of record i has these numbers, and those after it are as they were
 pub record Stored (M : List ℕ) (i a b c d e : ℕ) (M′ : List ℕ) : Type 0 where
   pub ethertype : getD M′ (5 * i) 0 ≡ a
   pub ip4 : getD M′ (5 * i + 1) 0 ≡ b

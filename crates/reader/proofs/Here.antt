@@ -102,7 +102,7 @@ module _ {s : List ℕ} {i : ℕ} where
   here-from h =
       record { most = h .most; whole = h .whole; last = omega arith; stands = record { nodes = read (nodesAt (countOf s - i) (place i) s) (treeOf s i ∷ h .rest) (h .stands) } }
 
--- a tree stands at each record after the first, if one stands there
+-- where a tree stands at the first record, one stands at each
 first-here : {s : List ℕ} {i : ℕ} (ts : List Expr) → From s i ts → i < countOf s → Here s i
 first-here [] k l = absurd (omega (arith, stands-none (k .stands)))
 first-here (t ∷ ts) k l = from-here k
