@@ -1,7 +1,8 @@
 // The words of a filter: ast.rs, and the link types of codegen.rs.
+#![tactic(auto)]
 
 // Which link-layer framing wraps the packets.
-#[derive(Drop)]
+#[derive(Clone, Copy)]
 pub enum LinkType {
     Ethernet,
     RawIp,
@@ -9,7 +10,7 @@ pub enum LinkType {
 }
 
 // Direction qualifier of a host, net, port or ether test.
-#[derive(Drop)]
+#[derive(Clone, Copy)]
 pub enum Dir {
     SrcOrDst,
     Src,

@@ -1,4 +1,5 @@
 // A tree file's program in a lent buffer: the build, and its two halves, the question and the load.
+#![tactic(auto)]
 ghost use Rattle.std.specs.Prelude.{◌≡◌, ◌≤◌, length};
 ghost use Rattle.generate.specs.Promises.{Generates};
 ghost use Rattle.build.specs.Build.{program, build, question, load};
@@ -8,7 +9,7 @@ use compile::Compiled;
 use error::Refusal;
 use reader::Checked;
 
-#[derive(Drop)]
+#[derive(Clone, Copy)]
 pub enum BuildResult {
     Count(u32),
     Refused(Refusal),

@@ -8,6 +8,7 @@
 //   3-4  the tree file's length
 // Each file is built into lent buffers of several lengths, and every byte of them is compared. The number 9 is this program's own: the Rust
 // has no lent buffer.
+#![tactic(auto)]
 ghost use Rattle.std.specs.Prelude.{◌<◌};
 
 use libc::{STDIN_FILENO, STDOUT_FILENO};

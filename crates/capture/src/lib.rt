@@ -1,4 +1,5 @@
 // Classic pcap files: the file header, the frames as parts of the file, and how many of them a program accepts.
+#![tactic(auto)]
 ghost use Rattle.std.specs.Prelude.{◌≡◌, true, ◌+◌, ◌≤◌, ◌<◌, length, drop};
 ghost use Rattle.capture.specs.Capture.{number_at, is_mark, order_of, field_of, opened, front, piece, part, frame_at};
 ghost use Rattle.capture.specs.Counting as C;
@@ -27,14 +28,14 @@ const LONGEST: usize = 65535;
 const FETCHED: usize = 128;
 
 // The byte order of a file's numbers.
-#[derive(Drop)]
+#[derive(Clone, Copy)]
 pub enum Order {
     Big,
     Little,
 }
 
 // A file header that was read: the byte order, or a refusal.
-#[derive(Drop)]
+#[derive(Clone, Copy)]
 pub enum Opened {
     In(Order),
     Refused(Refusal),
@@ -42,7 +43,7 @@ pub enum Opened {
 
 // What stands at the front of some bytes: a whole frame of so many bytes behind its header, one that runs past them, or one that is
 // over 65,535 bytes.
-#[derive(Drop)]
+#[derive(Clone, Copy)]
 pub enum Front {
     Whole(usize),
     Past,
@@ -50,14 +51,14 @@ pub enum Front {
 }
 
 // A frame's captured length, or a refusal.
-#[derive(Drop)]
+#[derive(Clone, Copy)]
 pub enum FrameResult {
     Size(usize),
     Refused(Refusal),
 }
 
 // How many of the frames given are kept, how many are given, and the place where reading stopped.
-#[derive(Drop)]
+#[derive(Clone, Copy)]
 pub struct Tally {
     pub kept: u64,
     pub given: u64,
@@ -65,14 +66,14 @@ pub struct Tally {
 }
 
 // The frames of a capture; with a refusal, those before it.
-#[derive(Drop)]
+#[derive(Clone, Copy)]
 pub enum CountResult {
     Count(Tally),
     Refused(Refusal, Tally),
 }
 
 // How far a file is read: its header, its frames, or to a refusal.
-#[derive(Drop)]
+#[derive(Clone, Copy)]
 pub enum Stage {
     Header,
     Within(Order),
@@ -80,7 +81,7 @@ pub enum Stage {
 }
 
 // One window of a file: how far the file is read then, and the window's frames.
-#[derive(Drop)]
+#[derive(Clone, Copy)]
 pub struct Step {
     pub stage: Stage,
     pub tally: Tally,

@@ -2,7 +2,7 @@
 use Prim.Native.Nat.{ℕ, ◌+◌, ◌*◌, ◌-◌, ◌/◌, ◌^◌, ◌≤◌, ◌<◌}
 use mathlib.Core.Path.{◌≡◌, refl, sym, ap, ap₂, ◌∙◌}
 use mathlib.Core.List.{List, [], ◌∷◌, ◌++◌}
-use mathlib.Core.Bool.{Bool, true, false, cond, ◌&&◌, and_true}
+use mathlib.Core.Bool.{Bool, true, false, cond, ◌&&◌, and-true}
 use native.Mathlib.Omega.{arith}
 use native.Mathlib.Nat.{add-zero, zero-add, div-one, div-eq_of_lt}
 use lib.ListN.{length, get_or}
@@ -65,7 +65,7 @@ module _ {f : List ℕ} {G : ℕ → Type 0} where
   unfolding check_range
   range_decides k y lo hi e =
       load_indexed k y e
-      (equal (ap (λ b. leb lo (be 2 y f) && b) (and_true _ ∙ not_lt hi (be 2 y f))) (needed jge lo (barred jgt hi (known (λ a x h. (refl, h.1))))))
+      (equal (ap (λ b. leb lo (be 2 y f) && b) (and-true _ ∙ not_lt hi (be 2 y f))) (needed jge lo (barred jgt hi (known (λ a x h. (refl, h.1))))))
 
 pub range_keeps : (lo hi at : ℕ) → writes_x (check_range lo hi at) ≡ false
 unfolding check_range writes_x
@@ -157,7 +157,7 @@ six true false c d e g = refl
 six true true false d e g = refl
 six true true true false e g = refl
 six true true true true false g = refl
-six true true true true true g = sym (and_true g)
+six true true true true true g = sym (and-true g)
 
 module _ (f : List ℕ) (bytes_of : AreBytes f) where
   one_byte : (at x v : ℕ) → at ≡ x → eqb (get_or f x 0) v ≡ eqb (be 1 at f) v

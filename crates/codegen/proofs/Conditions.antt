@@ -2,7 +2,7 @@
 use Prim.Native.Nat.{ℕ, ◌+◌, ◌*◌, ◌%◌, ◌^◌, ◌≤◌}
 use mathlib.Core.Path.{◌≡◌, refl, sym, ap, ◌∙◌}
 use mathlib.Core.List.{List}
-use mathlib.Core.Bool.{Bool, true, false, cond, ◌&&◌, ◌||◌, and_true, and_comm, and_assoc, or_comm, or_false}
+use mathlib.Core.Bool.{Bool, true, false, cond, ◌&&◌, ◌||◌, and-true, and_comm, and_assoc, or_comm, or-false}
 use mathlib.Core.Option.{Option, none, some}
 use native.Mathlib.Omega.{arith}
 use native.Mathlib.Nat.{mod-lt}
@@ -85,8 +85,8 @@ set_same (some (Ip6Proto n)) = tt
 -- a version's conditions and its test, gathered
 gather : (k4 k6 s4 z s6 t4 t6 : Bool) → (k4 ≡ true → k6 ≡ false)
     → ((k4 && (s4 && (z && t4))) || (k6 && (s6 && t6))) ≡ (((k4 && (s4 && z)) || (k6 && (s6 && true))) && cond k4 t4 t6)
-gather true k6 s4 z s6 t4 t6 h = rw (h refl) (or_false _ ∙ sym (and_assoc s4 z t4) ∙ ap (λ b. b && t4) (sym (or_false (s4 && z))))
-gather false k6 s4 z s6 t4 t6 h = rw (and_true s6) (sym (and_assoc k6 s6 t6))
+gather true k6 s4 z s6 t4 t6 h = rw (h refl) (or-false _ ∙ sym (and_assoc s4 z t4) ∙ ap (λ b. b && t4) (sym (or-false (s4 && z))))
+gather false k6 s4 z s6 t4 t6 h = rw (and-true s6) (sym (and_assoc k6 s6 t6))
 
 cond_ap : (ask : ℕ → Bool) (b : Bool) (x y : ℕ) → cond b (ask x) (ask y) ≡ ask (cond b x y)
 cond_ap ask true x y = refl

@@ -2,7 +2,7 @@
 use Prim.Native.Nat.{ℕ}
 use mathlib.Core.Path.{◌≡◌, refl, sym, ◌∙◌}
 use mathlib.Core.List.{List, []}
-use mathlib.Core.Bool.{Bool, true, false, cond, ◌&&◌, ◌||◌, and_true}
+use mathlib.Core.Bool.{Bool, true, false, cond, ◌&&◌, ◌||◌, and-true}
 use mathlib.Core.Option.{Option, none, some}
 use Rattle.error.specs.Answer.{Out, refused, done, ◌>>=◌}
 use Rattle.error.proofs.All.{cases, either, All, all_bind}
@@ -130,12 +130,12 @@ module _ (L : LinkType) (f : List ℕ) where
 
   hoist_known_lem : (k : Known) (e : ℕ → Facts → Out Code) (q : ℕ → Bool) → ((v : ℕ) (g : Facts) → Raw L g.ethertype → All (Emits L f Never g (q v)) (e v g))
       → (g : Facts) (P : Bool) (c : Code) → Emits L f Never g P c → All (Emits L f Never g (P && asks k q)) (hoist_known L k e c)
-  hoist_known_lem Unknown e q h g P c k = record { decides = equal (sym (and_true P)) k.decides; raw = k.raw }
+  hoist_known_lem Unknown e q h g P c k = record { decides = equal (sym (and-true P)) k.decides; raw = k.raw }
   hoist_known_lem (Is v) e q h g P c k =
       all_bind (Emits L f Never c.facts (q v)) _ (e v c.facts) _ (h v c.facts k.raw) (λ d j. record { decides = seq k.decides j.decides; raw = j.raw })
 
   hoist_ports_lem : (k : Option L4Set) (g : Facts) (P : Bool) (c : Code) → Emits L f Never g P c → All (Emits L f Never g (P && asks_ports k (has_ports L f))) (hoist_ports L k c)
-  hoist_ports_lem none g P c k = record { decides = equal (sym (and_true P)) k.decides; raw = k.raw }
+  hoist_ports_lem none g P c k = record { decides = equal (sym (and-true P)) k.decides; raw = k.raw }
   hoist_ports_lem (some want) g P c k =
       record {
         decides = seq k.decides (learning (λ a x e h. h.0) (prereqs_ready L f want c.facts k.raw));

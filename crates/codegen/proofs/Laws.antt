@@ -2,7 +2,7 @@
 use Prim.Native.Nat.{ℕ, zero, suc, ◌+◌, ◌*◌, ◌%◌}
 use mathlib.Core.Path.{◌≡◌, refl, ap}
 use mathlib.Core.List.{List, [], ◌∷◌, ◌++◌}
-use mathlib.Core.Bool.{Bool, true, false, cond, not, ◌&&◌, ◌||◌, and_true, true≢false}
+use mathlib.Core.Bool.{Bool, true, false, cond, not, ◌&&◌, ◌||◌, and-true, true≢false}
 use lib.ListN.{length}
 use lib.Bits.{bit_and}
 use Rattle.bpf.specs.Bytes.{be}
@@ -296,7 +296,7 @@ module _ {f : List ℕ} where
   -- a test at the end
   pub lastly : {S : Type 0} {G : ℕ → Type 0} {v : ℕ} (t : Test) (k : ℕ)
       → Decides f S (With v G) (test t k jf (leave failure) ∷ []) (compare t v k) (OfX G)
-  lastly t k = equal (and_true _) (needed t k (known (λ a x g. (refl, g.1))))
+  lastly t k = equal (and-true _) (needed t k (known (λ a x g. (refl, g.1))))
   -- ---- X where a block left by failure
 
 -- ---- X where a block left by failure

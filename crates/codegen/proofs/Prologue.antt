@@ -2,7 +2,7 @@
 use Prim.Native.Nat.{ℕ, ◌+◌, ◌*◌, ◌%◌, ◌^◌}
 use mathlib.Core.Path.{◌≡◌, refl, sym, ap, ◌∙◌}
 use mathlib.Core.List.{List, ◌++◌}
-use mathlib.Core.Bool.{Bool, true, false, cond, ◌&&◌, and_true, or_false, false≢true, true≢false}
+use mathlib.Core.Bool.{Bool, true, false, cond, ◌&&◌, and-true, or-false, false≢true, true≢false}
 use mathlib.Core.Option.{Option, none, some}
 use native.Mathlib.Omega.{arith}
 use lib.Dec.{eqb}
@@ -42,7 +42,7 @@ module _ {f : List ℕ} {G : ℕ → Type 0} where
       → Decides f Never (OfX G) (header4 n) (eqb (be 2 (n + 6) f % 2 ^ 13) 0) (OfX H)
   unfolding header4
   header4_decides n H w =
-      equal (and_true _ ∙ low_zero (be 2 (n + 6) f) 13)
+      equal (and-true _ ∙ low_zero (be 2 (n + 6) f) 13)
       (load half (n + 6) (barred jset 0x1fff (given (λ a x g. g.1) (load_x n w (known (λ a x h. (refl, h)))))))
 
   header6_decides : (H : ℕ → Type 0) → ((x : ℕ) → G x → H 40) → Decides f Never (OfX G) header6 true (OfX H)
@@ -127,7 +127,7 @@ module _ (L : LinkType) (f : List ℕ) where
           eqb-true x (header_length L f) (and_right (has_ports L f have) (eqb x (header_length L f)) (i x h)) ∙ long,
           e,
         ))
-        (equal (sym (has want ∙ ap (λ b. contains want (be 1 at f) && b) z ∙ and_true _)) (l4_decides at want)))
+        (equal (sym (has want ∙ ap (λ b. contains want (be 1 at f) && b) z ∙ and-true _)) (l4_decides at want)))
     version_block want none k g i j = pinned_decides want k g j
 
     module _ (get : Facts → Known) (learn : Facts → ℕ → Facts)
@@ -169,7 +169,7 @@ module _ (L : LinkType) (f : List ℕ) where
 
   ports_4 : kind L f 0x0800 ≡ true → (set : L4Set) → has_ports L f set ≡ (contains set (be 1 (net_offset L + 9) f) && first_part L f)
   unfolding has_ports
-  ports_4 k set = rw (k, kind_other 0x0800 0x86dd refl k) (or_false _)
+  ports_4 k set = rw (k, kind_other 0x0800 0x86dd refl k) (or-false _)
 
   header_4 : kind L f 0x0800 ≡ true → header_length L f ≡ 4 * (be 1 (net_offset L) f % 16)
   unfolding header_length
@@ -224,7 +224,7 @@ module _ (L : LinkType) (f : List ℕ) where
         go : (b : Bool) → eqb (be 2 off f) 0x86dd ≡ b
             → cond b (contains want (be 1 (net_offset L + 6) f) && true) (eqb (be 2 off f) 0x0800 && four) ≡ has_ports L f want
         go true e = sym (ports_6 (sym (at_off 0x86dd) ∙ e) want)
-        go false e = rw (← at_off 0x0800, ← at_off 0x86dd, e) (sym (or_false _))
+        go false e = rw (← at_off 0x0800, ← at_off 0x86dd, e) (sym (or-false _))
 
     Bare : ℕ → ℕ → Type 0
     Bare n x = Holds L f (with_ports g NotReady) x × (x ≡ n)

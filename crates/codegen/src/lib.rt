@@ -1,14 +1,15 @@
 // The code generator's types: codegen.rs.
+#![tactic(auto)]
 
 // The set of L4 protocol numbers that a port prologue admits: one, or TCP and UDP.
-#[derive(Drop)]
+#[derive(Clone, Copy)]
 pub enum L4Set {
     One(u32),
     TcpOrUdp,
 }
 
 // A value that may be known.
-#[derive(Drop)]
+#[derive(Clone, Copy)]
 pub enum Known {
     Unknown,
     Is(u32),
@@ -16,7 +17,7 @@ pub enum Known {
 
 // A port prologue that has passed, or that is required, for a set: codegen.rs `Option<L4Set>` as one enum, since an enum within an enum is
 // slow to copy.
-#[derive(Drop)]
+#[derive(Clone, Copy)]
 pub enum Ports {
     NotReady,
     ReadyOne(u32),
@@ -24,7 +25,7 @@ pub enum Ports {
 }
 
 // What is proven on the path that code falls through.
-#[derive(Drop)]
+#[derive(Clone, Copy)]
 pub struct Facts {
     pub ethertype: Known,
     pub ip4_proto: Known,
@@ -33,7 +34,7 @@ pub struct Facts {
 }
 
 // What an expression requires on every accepting path.
-#[derive(Drop)]
+#[derive(Clone, Copy)]
 pub struct GuardSet {
     pub ethertype: Known,
     pub ip4_proto: Known,
@@ -42,7 +43,7 @@ pub struct GuardSet {
 }
 
 // A protocol number in the protocol table: absent, fixed, or the record's small number.
-#[derive(Drop)]
+#[derive(Clone, Copy)]
 pub enum RowNumber {
     Absent,
     Fixed(u32),
@@ -50,7 +51,7 @@ pub enum RowNumber {
 }
 
 // A row of the protocol table.
-#[derive(Drop)]
+#[derive(Clone, Copy)]
 pub struct Row {
     pub ethertype: u32,
     pub ip4_proto: RowNumber,

@@ -1,4 +1,5 @@
 // The program of bin/pft.
+#![tactic(auto)]
 use frames::Output;
 use libc::{STDERR_FILENO, STDOUT_FILENO};
 

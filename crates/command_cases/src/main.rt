@@ -1,4 +1,5 @@
 // What `pft` says, answers and messages on standard output, and its exit status, for each of several groups of arguments. A group ends with `;`.
+#![tactic(auto)]
 use frames::Output;
 use libc::STDOUT_FILENO;
 

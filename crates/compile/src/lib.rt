@@ -1,4 +1,5 @@
 // A tree's program: codegen.rs `emit_expr` and `compile`, over the records of a tree file.
+#![tactic(auto)]
 ghost use Rattle.std.specs.Prelude.{◌+◌};
 ghost use Rattle.ast.specs.Tree.{And, Or};
 ghost use Rattle.codegen.specs.Emit as E;
@@ -243,7 +244,7 @@ const RECORD: usize = 24;
 
 const JOINLESS: usize = 56;
 
-#[derive(Drop)]
+#[derive(Clone, Copy)]
 pub enum Compiled {
     Count(usize),
     Refused(Refusal),

@@ -1,4 +1,5 @@
 // The conditions but ports and ether addresses: codegen.rs `emit_ethertype` to `emit_ip6_multicast`.
+#![tactic(auto)]
 ghost use Rattle.std.specs.Prelude.{◌≡◌, [], ◌∷◌, ◌++◌, ◌+◌, ◌≤◌, ◌<◌};
 ghost use Rattle.codegen.specs.Block.{half, word};
 ghost use Rattle.ast.specs.Tree.{IpBroadcast, IpMulticast, Ip6Multicast};
@@ -17,27 +18,27 @@ use error::Refusal;
 use nets::{FULL, Net6, net6_of};
 
 // What a load is masked with.
-#[derive(Drop)]
+#[derive(Clone, Copy)]
 pub enum Mask {
     Whole,
     Under(u32),
 }
 
 // A test of several loads: low and high of a port range, or the first four bytes and the last two of an ether address.
-#[derive(Drop)]
+#[derive(Clone, Copy)]
 pub enum Shape {
     Range(u32, u32),
     Mac(u32, u32),
 }
 
-#[derive(Drop)]
+#[derive(Clone, Copy)]
 pub enum Version {
     V4,
     V6,
 }
 
 // The place of the ethertype.
-#[derive(Drop)]
+#[derive(Clone, Copy)]
 pub enum Offset {
     Absent,
     At(u32),

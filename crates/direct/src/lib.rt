@@ -1,7 +1,8 @@
 // The direct reading of a tree: what it says of a frame.
+#![tactic(auto)]
 use error::Refusal;
 
-#[derive(Drop)]
+#[derive(Clone, Copy)]
 pub enum DirectResult {
     Is(bool),
     Refused(Refusal),

@@ -1,5 +1,6 @@
 // Blocks in lent slices: codegen.rs `push`, `resolve`, `check_byte` and their like. Each line is one number in `insns`; `success` and
 // `failure` hold the places of the lines whose jumps are pending, the `Patches` of the source.
+#![tactic(auto)]
 ghost use Rattle.std.specs.Prelude.{◌≡◌, [], ◌∷◌, ◌++◌, ◌+◌, ◌*◌, ◌-◌, ◌^◌, ◌%◌, ◌≤◌, ◌<◌, length, get_or, set, eqb, cond};
 ghost use Rattle.std.proofs.Math.Seq.{slice};
 ghost use Rattle.codegen.specs.Block as B;
@@ -14,7 +15,7 @@ use error::Refusal;
 // ---- what is passed
 
 // How much of the program and of the two stacks of pending jumps is filled, and how often X was written.
-#[derive(Drop)]
+#[derive(Clone, Copy)]
 pub struct Patches {
     pub insns: usize,
     pub success: usize,
@@ -23,20 +24,20 @@ pub struct Patches {
 }
 
 // The patches after a condition, and the facts on the path that code falls through.
-#[derive(Drop)]
+#[derive(Clone, Copy)]
 pub struct Emitted {
     pub patches: Patches,
     pub facts: Facts,
 }
 
-#[derive(Drop)]
+#[derive(Clone, Copy)]
 pub enum Emission {
     Done(Emitted),
     Refused(Refusal),
 }
 
 // The patches after a block was settled, and whether every distance was within 255.
-#[derive(Drop)]
+#[derive(Clone, Copy)]
 pub struct Settled {
     pub patches: Patches,
     pub near: bool,

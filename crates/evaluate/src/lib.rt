@@ -1,4 +1,5 @@
 // The direct reading of a tree file on a frame. Every place, number and mask here is this file's own.
+#![tactic(auto)]
 ghost use Rattle.std.specs.Prelude.{◌≡◌, ◌+◌, ◌-◌, ◌%◌, ◌≤◌, ◌<◌, length, eqb};
 ghost use Rattle.bpf.specs.Bytes.{be, bytes_at};
 ghost use Rattle.ast.specs.Record.{proto_of};
@@ -395,7 +396,7 @@ fn eval_primitive(tree: &[u8], i: usize, link: LinkType, frame: &[u8]) -> bool
 }
 
 // What the tree at a record says of the frame, and the record after the tree.
-#[derive(Drop)]
+#[derive(Clone, Copy)]
 pub struct Read {
     pub value: bool,
     pub next: usize,

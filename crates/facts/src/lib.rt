@@ -1,4 +1,5 @@
 // Facts, guards and protocol sets: codegen.rs `L4Set`, `Facts`, `GuardSet`, `l4set_for`, and the table of the twelve protocols.
+#![tactic(auto)]
 ghost use Rattle.std.specs.Prelude.{◌≡◌, ℕ, ◌≤◌};
 ghost use Rattle.ast.specs.Record.{proto_of, port_proto_of};
 ghost use Rattle.codegen.specs.Facts as F;
@@ -12,7 +13,7 @@ use ast::LinkType;
 use codegen::{Facts, GuardSet, Known, L4Set, Ports, Row, RowNumber};
 use error::Refusal;
 
-#[derive(Drop)]
+#[derive(Clone, Copy)]
 pub enum SetResult {
     Set(L4Set),
     Refused(Refusal),

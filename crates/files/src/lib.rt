@@ -1,4 +1,5 @@
 // Files by name, read into lent buffers; captures in windows of one buffer.
+#![tactic(auto)]
 mod windows;
 
 ghost use Rattle.std.specs.Prelude.{◌+◌, ◌≤◌, ◌<◌, ◌≡◌, length, take};

@@ -1,4 +1,5 @@
 // What `pft` answers and says: its subcommands over trees, which are files or typed lines, frame files and captures by name.
+#![tactic(auto)]
 mod count;
 mod list;
 mod over;

@@ -1,4 +1,5 @@
 // What is said of a typed line that is refused: the line with a mark under the place, and what could stand there.
+#![tactic(auto)]
 mod characters;
 mod follow;
 mod row;

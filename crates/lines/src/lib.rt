@@ -1,4 +1,5 @@
 // The words of a typed line, read from the left into items: each is a record with the brackets that are open at its place.
+#![tactic(auto)]
 ghost use Rattle.std.specs.Prelude.{◌≡◌, ◌+◌, ◌-◌, ◌^◌, ◌<◌, max, length, set};
 ghost use Rattle.typing.specs.Words.{line_words};
 ghost use Rattle.lines.specs.Reads as R;
@@ -25,7 +26,7 @@ pub const VALUE_AT: u64 = 4294967296;
 
 // What stands before the next word: where a condition has to follow; a protocol that may be alone; a protocol and a side; `host` and its
 // side; `port` with both; a whole phrase. Protocols and sides are their bytes in a record, 0 for none.
-#[derive(Drop)]
+#[derive(Clone, Copy)]
 enum Spot {
     Want,
     Lone(u8),
@@ -37,7 +38,7 @@ enum Spot {
 
 // What a word does: it cannot follow; it goes on to another spot; it ends a condition (kind, side, protocol, value); it is a bracket, a not,
 // or a join of a kind.
-#[derive(Drop)]
+#[derive(Clone, Copy)]
 enum Move {
     Refuse,
     Go(Spot),
@@ -49,7 +50,7 @@ enum Move {
 }
 
 // Where a line is read: the brackets open now and at most, and the records so far.
-#[derive(Drop)]
+#[derive(Clone, Copy)]
 struct Sum {
     spot: Spot,
     depth: usize,
@@ -58,7 +59,7 @@ struct Sum {
 }
 
 // What a word makes of it.
-#[derive(Drop)]
+#[derive(Clone, Copy)]
 enum Step {
     Unread,
     Stopped,
@@ -66,7 +67,7 @@ enum Step {
 }
 
 // What a line is: a word that is unknown, or one that cannot follow, at a place; or a phrase, with its records and the most brackets open.
-#[derive(Drop)]
+#[derive(Clone, Copy)]
 pub enum Scan {
     Strange(usize),
     Unfinished(usize),

@@ -1,4 +1,5 @@
 // A program's listing: document 01's, those of `tcpdump -d` and `-dd`, and the line that tc and iptables take.
+#![tactic(auto)]
 ghost use Rattle.std.specs.Prelude.{◌+◌, ◌*◌, ◌≤◌, ◌<◌, ◌≡◌, length};
 ghost use Rattle.bpf.specs.Program.{insn_at};
 

@@ -1,4 +1,5 @@
 // The classic BPF machine: vm.rs, over the bytes of a program and of a frame.
+#![tactic(auto)]
 ghost use Rattle.std.specs.Prelude.{◌≡◌, ℕ, ◌+◌, ◌*◌, ◌/◌, ◌%◌, ◌^◌, ◌<◌, ◌≤◌, not, ◌||◌, length, replicate, if◌then◌else◌, ◌==◌, nat_eq, nat_lt, slice_index};
 ghost use Rattle.bpf.specs.Bytes.{be, le_at};
 ghost use Rattle.bpf.specs.Program.{insn};
@@ -13,7 +14,7 @@ use vm::{Effect, Outcome, RunResult, Verdict};
 
 // How a run goes on: with the instruction that follows, by k, jt or jf, by the jt or jf of a test that follows a load; it ends;
 // or the code is one that the first loop does not know, and nothing is done yet.
-#[derive(Drop)]
+#[derive(Clone, Copy)]
 pub enum Way {
     On,
     Jump,
@@ -28,7 +29,7 @@ pub enum Way {
 }
 
 // A way, with the A and X that go along.
-#[derive(Drop)]
+#[derive(Clone, Copy)]
 pub struct Turn {
     pub way: Way,
     pub a: u32,

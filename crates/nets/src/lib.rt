@@ -1,4 +1,5 @@
 // A net in sixteen numbers: the masks of its eight segments, and what they leave of its address.
+#![tactic(auto)]
 ghost use Rattle.std.specs.Prelude.{◌≡◌, ◌<◌};
 ghost use Rattle.codegen.specs.Emit as E;
 ghost use Rattle.codegen.specs.Nets6 as N;
@@ -10,7 +11,7 @@ const BITS: u8 = 16;
 // The mask of a segment that counts whole.
 pub const FULL: u16 = 0xffff;
 
-#[derive(Drop)]
+#[derive(Clone, Copy)]
 pub struct Net6 {
     pub masks: [u16; 8],
     pub expected: [u16; 8],

@@ -1,4 +1,5 @@
 // A program's lines as a row of instructions, and the row as bytes in a lent buffer.
+#![tactic(auto)]
 ghost use Rattle.std.specs.Prelude.{◌≡◌, ◌++◌, map, ◌+◌, ◌*◌, ◌≤◌, ◌<◌, length, take, drop, get_or, replicate};
 ghost use Rattle.bpf.specs.Program.{insn, insn_bytes};
 ghost use Rattle.output.specs.Words as W;
@@ -8,7 +9,7 @@ use bpf::Insn;
 
 // The field of an instruction that waits for a distance, by the instruction's place in a row: codegen.rs `Patch`. A line that does not
 // jump has nothing to wait for.
-#[derive(Drop)]
+#[derive(Clone, Copy)]
 pub enum Patch {
     Jt(usize),
     Jf(usize),
@@ -17,7 +18,7 @@ pub enum Patch {
 }
 
 // A pending jump whose distance is known.
-#[derive(Drop)]
+#[derive(Clone, Copy)]
 pub struct Pending {
     pub patch: Patch,
     pub distance: u32,

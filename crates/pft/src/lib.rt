@@ -1,4 +1,5 @@
 // The functions that Rust and C call, each answering one number.
+#![tactic(auto)]
 ghost use Rattle.std.specs.Prelude.{◌≡◌, cond, ◌+◌, ◌*◌, ◌^◌, ◌≤◌, length};
 ghost use Rattle.error.specs.Answer.{number_of};
 ghost use Rattle.vm.specs.Machine as M;

@@ -1,4 +1,5 @@
 // Document 01's listing: reads a tree file from standard input and prints its program, or `refused N`.
+#![tactic(auto)]
 use frames::Output;
 use libc::{STDERR_FILENO, STDOUT_FILENO};
 

@@ -9,7 +9,3 @@ pub mod Forests
 pub mod Bodies
 pub mod Checks
 pub mod Firsts
-pub mod Held
-pub mod Numbers
-pub mod Methods
-pub mod Above

@@ -2,7 +2,7 @@
 use Prim.Native.Nat.{ℕ, zero, suc, ◌+◌, ◌-◌, ◌≤◌}
 use mathlib.Core.Path.{◌≡◌, refl, sym, ap, ap₂, ◌∙◌}
 use mathlib.Core.List.{List, [], ◌∷◌}
-use mathlib.Core.Bool.{Bool, true, false, cond, not, ◌&&◌, ◌||◌, and_true, and_false, and_comm, or_true}
+use mathlib.Core.Bool.{Bool, true, false, cond, not, ◌&&◌, ◌||◌, and-true, and-false, and_comm, or-true}
 use native.Mathlib.Omega.{arith}
 use lib.Dec.{eqb, leb}
 use borrow.Author.Tests.{eqb-true, ne_eqb, le-leb, lt-leb}
@@ -19,9 +19,9 @@ use Rattle.reader.specs.Checking.{is_done, most_for, most_by, most_of, small_fit
 -- ---- a record of a kind
 
 most : (m v : ℕ) (u : Bool) → (leb v m && (u || eqb v 0)) ≡ leb v (cond u m 0)
-most m v true = and_true (leb v m)
+most m v true = and-true (leb v m)
 most m zero false = rw (le-leb 0 m (omega arith))
-most m (suc v) false = rw (ne_eqb (suc v) 0 (λ e. omega arith), lt-leb (suc v) 0 (omega arith)) (and_false (leb (suc v) m))
+most m (suc v) false = rw (ne_eqb (suc v) 0 (λ e. omega arith), lt-leb (suc v) 0 (omega arith)) (and-false (leb (suc v) m))
 
 most_known : (m v : ℕ) (u : Bool) → v ≤ m → (u || eqb v 0) ≡ leb v (cond u m 0)
 most_known m v u h = rw (le-leb v m h) at (most m v u)
@@ -31,7 +31,7 @@ unfolding small_fits
 small_most p v u h = go (numbered p)
   where
     go : (n : Bool) → (u || (n || eqb v 0)) ≡ (n || leb v (cond u 255 0))
-    go true = or_true u
+    go true = or-true u
     go false = most_known 255 v u h
 
 -- the same tests in another order
@@ -44,11 +44,11 @@ order true true false false e f g h z = refl
 order true true true false e f g h z = refl
 order true true false true false f g h z = refl
 order true true true true false f g h z = refl
-order true true c true true false false h z = and_false c
-order true true c true true false true false z = and_false c
-order true true c true true false true true z = and_false c
-order true true c true true true false h z = and_false c
-order true true c true true true true false z = and_false c
+order true true c true true false false h z = and-false c
+order true true c true true false true false z = and-false c
+order true true c true true false true true z = and-false c
+order true true c true true true false h z = and-false c
+order true true c true true true true false z = and-false c
 order true true c true true true true true z = and_comm c z
 
 -- a record's numbers keep the bounds of their bytes
@@ -82,7 +82,7 @@ good_passes k r h e =
 -- no kind lets the record pass
 none : (r : Record) → false ≡ passes r.kind (most_by [] r.kind) r
 unfolding passes unused most_by
-none r = sym (and_false (fits (most_by [] r.kind) r))
+none r = sym (and-false (fits (most_by [] r.kind) r))
 
 answered : {A : Type 0} (b : Bool) (x : A) (r : Refusal) → is_done (cond b (done x) (refused r)) ≡ b
 answered true x r = refl

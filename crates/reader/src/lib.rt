@@ -1,4 +1,5 @@
 // The tree file: its numbers, and checks 1 to 4.
+#![tactic(auto)]
 ghost use Rattle.std.specs.Prelude.{◌≡◌, not, ◌&&◌, ◌||◌, ◌+◌, ◌*◌, ◌≤◌, ◌<◌, length, eqb, ltb};
 ghost use Rattle.bpf.specs.Bytes.{be, segments_at, bytes_at};
 ghost use Rattle.ast.specs.Record.{dir_of, record_at, node_at};
@@ -10,7 +11,7 @@ use ast::{Dir, LinkType};
 use error::Refusal;
 
 // The answer of the checks: the file's link, or its refusal.
-#[derive(Drop)]
+#[derive(Clone, Copy)]
 pub enum Checked {
     Link(LinkType),
     Refused(Refusal),
@@ -18,11 +19,11 @@ pub enum Checked {
 
 // What a record of some kind may hold: the most for direction, protocol, small number, A and B, 0 where it does not use them;
 // and how many bytes of the address it uses.
-#[derive(Drop)]
+#[derive(Clone, Copy)]
 pub struct Most(pub u8, pub u8, pub u8, pub u16, pub u16, pub u8);
 
 // A tree file's bytes, lent, and the index of a record.
-#[derive(Drop)]
+#[derive(Clone, Copy)]
 pub struct RecordReader<'a> {
     pub tree: &'a [u8],
     pub index: usize,

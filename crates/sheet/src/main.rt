@@ -1,4 +1,5 @@
 // The commissioning sheet, executed: each of its sentences with `ok`, or with what differs.
+#![tactic(auto)]
 ghost use Rattle.std.specs.Prelude.{◌≤◌, ◌<◌};
 
 use libc::STDOUT_FILENO;

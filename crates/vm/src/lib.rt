@@ -1,10 +1,11 @@
 // The classic BPF machine's types: vm.rs.
+#![tactic(auto)]
 ghost use Rattle.std.specs.Prelude.{◌≡◌, ◌≤◌};
 ghost use Rattle.vm.specs.Machine.{number_of_verdict};
 
 use error::Refusal;
 
-#[derive(Drop)]
+#[derive(Clone, Copy)]
 pub enum Verdict {
     Accepted,
     Dropped,
@@ -13,20 +14,20 @@ pub enum Verdict {
 }
 
 // A run's verdict, and how many instructions it fetched.
-#[derive(Drop)]
+#[derive(Clone, Copy)]
 pub struct Outcome {
     pub verdict: Verdict,
     pub steps: u32,
 }
 
-#[derive(Drop)]
+#[derive(Clone, Copy)]
 pub enum RunResult {
     Ran(Outcome),
     Refused(Refusal),
 }
 
 // What one instruction does: it sets A, X or a scratch word, skips some of the following instructions, or ends the run.
-#[derive(Drop)]
+#[derive(Clone, Copy)]
 pub enum Effect {
     SetA(u32),
     SetX(u32),

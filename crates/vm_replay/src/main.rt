@@ -10,6 +10,7 @@
 //   6-7    how many bytes of the program are stored
 //   8-9    how many zeros follow the program's stored bytes
 //   10-11  how many zeros follow the frame's
+#![tactic(auto)]
 ghost use Rattle.std.specs.Prelude.{◌≤◌, ◌<◌, ◌≡◌};
 ghost use Rattle.vm.specs.Machine.{refusal_of, verdict_of, steps_of};
 

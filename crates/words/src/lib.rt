@@ -1,10 +1,11 @@
 // The words of a typed line, each by its bytes.
+#![tactic(auto)]
 ghost use Rattle.std.specs.Prelude.{◌≡◌, ◌+◌, ◌≤◌, ◌<◌, length, drop};
 ghost use Rattle.typing.specs.Words as W;
 ghost use Rattle.words.specs.Tokens.{coded, amount, key_of, by_key, counted, leading, once, twice, Takes, numeral_of};
 
 // A word: protocols, directions and joins by their bytes in a record.
-#[derive(Drop)]
+#[derive(Clone, Copy)]
 pub enum Token {
     Unknown,
     Name(u8),
@@ -20,14 +21,14 @@ pub enum Token {
     Number(u32),
 }
 
-#[derive(Drop)]
+#[derive(Clone, Copy)]
 enum Amount {
     Of(u32),
     Nothing,
 }
 
 // A byte of an address and where its digits end.
-#[derive(Drop)]
+#[derive(Clone, Copy)]
 enum Octet {
     Byte(u32, usize),
     Missing,

@@ -1,0 +1,13 @@
+use borrow.Author.Rules.{rules}
+use native.Mathlib.Omega.{arith}
+use Rattle.emit.specs.Lines.{op_of}
+use Rattle.emit.proofs.Grow.{then_failure}
+use Rattle.emit.proofs.check_word.Goals as goal
+
+pub push-t-requires : goal.push-t-requires
+unfolding op_of
+push-t-requires c = search rules
+
+pub returns : goal.returns
+unfolding op_of
+returns c = then_failure c.push-t.ensures c.need.ensures

@@ -1,9 +1,0 @@
-use borrow.Author.Rules.{rules}
-use Rattle.facts.proofs.holds.Statement.{statement}
-use Rattle.facts.proofs.holds.Tie as tie
-
-returns-2 : tie.Need-returns-2
-returns-2 c = rw c.before.known.given.1
-
-pub holds-spec : {M : Type 1} → statement M
-holds-spec = tie.close (tie.spec (λ c. search rules) (λ c. search rules) (λ c. search rules) returns-2)

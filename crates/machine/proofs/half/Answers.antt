@@ -1,0 +1,6 @@
+use Rattle.std.proofs.Common.{arith, rules}
+use Rattle.bpf.proofs.Bytes.{be_half}
+use Rattle.machine.proofs.half.Goals as goal
+
+pub returns : goal.returns
+returns c = rw be_half (omega arith)

@@ -1,0 +1,6 @@
+use Rattle.std.proofs.Common.{arith, rules}
+use Rattle.bpf.proofs.Bytes.{le_word}
+use Rattle.machine.proofs.number.Goals as goal
+
+pub returns : goal.returns
+returns c = rw le_word (omega arith)

@@ -1,0 +1,24 @@
+use Rattle.output.proofs.write_program.Reads as reads
+use Rattle.output.proofs.write_program.Lts as lts
+use Rattle.output.proofs.next.Reads as next-reads
+use Rattle.output.proofs.write_row.Reads as write-row-reads
+use mathlib.Core.Path.{◌≡◌, refl, ◌∙◌}
+use mathlib.Core.List.{◌++◌}
+use Prim.Native.Nat.{ℕ, ◌≤◌, ◌-◌, ◌+◌, ◌*◌}
+use native.Mathlib.Omega.{arith}
+use lib.ListN.{length, take, drop}
+use Rattle.output.specs.Words.{bytes_of}
+use Rattle.output.proofs.Parts.{part_length, program_next}
+use Rattle.output.proofs.write_program.Goals as goal
+
+pub loop-i-init : goal.loop-i-init
+unfolding bytes_of
+loop-i-init c = (omega arith, refl, refl)
+
+pub loop-i-preserved : goal.loop-i-preserved
+loop-i-preserved c =
+    let l = c.loop-i in
+    let a = c.args in
+    let m : ℕ = c.next-m.result in
+    let within : l.i + m ≤ a.n = omega (arith, c.next-m.ensures) in
+    (within, omega arith, c.write_row.ensures ∙ program_next a.lines.now a.program.now l.program l.i m (omega (arith, within)) l.invariant.2)
