@@ -71,6 +71,9 @@ class Function:
             return "c"
         found, arms = self.steps()
         first = plain(path[0])
+        typed = {plain(step): variable for place in self.names["typed"] for variable, step in place}
+        if first in typed and path[1:2] == ["given"]:
+            return ".".join(["c", "type_inv", typed[first], *path[2:]])
         if first in found and path[0] not in ("args", "requires"):
             news = found[first]
             held = [it for it in arms.get(first, []) if path[1 : 1 + len(it[0])] == it[0]]
@@ -90,7 +93,13 @@ class Function:
         return ".".join(["c", *path])
 
     def turned(self, body):
-        return STEP.sub(self.step, body)
+        body = STEP.sub(self.step, body)
+        # A name that was given to a place is read as the place.
+        body = re.sub(r"(c\.wrapping_[a-z]+_u32[^\s(){},.]*\.ensures)(?![.\w])", r"\1.value", body)
+        for alias in re.findall(r"let (\w+) = c in", body):
+            path = re.compile(rf'(?<![^\s(){{}},;\[\]=→]){alias}((?:\.before)*)((?:\.[^\s(){{}}.,;\[\]]+)+)')
+            body = path.sub(lambda m: alias + self.step(m)[1:], body)
+        return body
 
     # ---- files
 

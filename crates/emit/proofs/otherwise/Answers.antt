@@ -15,4 +15,4 @@ resolve_all-near-requires c =
     )
 
 pub returns : goal.returns
-returns c = record { ended = λ B I₀ Y₀ N₀ s₀ g e hN. otherwise_ended _ g c.ja_success-t.ensures e hN c.resolve_all-near.new.0 c.resolve_all-near.result c.resolve_all-near.ensures }
+returns c = record { ended = λ B I₀ Y₀ N₀ s₀ g e hN. otherwise_ended _ g c.ja_success-t.ensures e hN c.resolve_all-near.new.insns c.resolve_all-near.result c.resolve_all-near.ensures }

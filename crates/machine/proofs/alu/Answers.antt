@@ -8,11 +8,11 @@ use Rattle.machine.proofs.alu.Goals as goal
 
 pub returns-in-0 : goal.returns-in-0
 unfolding alu
-returns-in-0 c = rw (c.in-0.is, c.wrapping_add_u32.ensures)
+returns-in-0 c = rw (c.in-0.is, c.wrapping_add_u32.ensures.value)
 
 pub returns-in-1 : goal.returns-in-1
 unfolding alu
-returns-in-1 c = rw c.in-1.is (ap SetA (sub_wraps _ _ _ c.wrapping_sub_u32.ensures (search rules) (search rules)))
+returns-in-1 c = rw c.in-1.is (ap SetA (sub_wraps _ _ _ c.wrapping_sub_u32.ensures.value (search rules) (search rules)))
 
 pub returns-in-2 : goal.returns-in-2
 unfolding alu
@@ -44,7 +44,7 @@ returns-in-7 c = rw c.in-7.is
 
 pub returns-in-8 : goal.returns-in-8
 unfolding alu
-returns-in-8 c = rw c.in-8.is (ap SetA (sub_wraps _ _ _ c.wrapping_sub_u32-in-8.ensures (search rules) (search rules)))
+returns-in-8 c = rw c.in-8.is (ap SetA (sub_wraps _ _ _ c.wrapping_sub_u32-in-8.ensures.value (search rules) (search rules)))
 
 pub returns-in-10 : goal.returns-in-10
 unfolding alu

@@ -13,7 +13,7 @@ returns-in-1 c = rw (c.in-1.is, c.sized_load.ensures)
 
 pub returns-in-2 : goal.returns-in-2
 unfolding ld
-returns-in-2 c = rw (c.in-2.is, c.sized_load-in-2.ensures, c.wrapping_add_u32.ensures)
+returns-in-2 c = rw (c.in-2.is, c.sized_load-in-2.ensures, c.wrapping_add_u32.ensures.value)
 
 pub returns-in-3 : goal.returns-in-3
 unfolding ld

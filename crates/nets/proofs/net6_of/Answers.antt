@@ -8,6 +8,6 @@ use Rattle.nets.proofs.net6_of.Goals as goal
 pub returns : goal.returns
 unfolding tabulate under
 returns c = let a = c.args in
-    let q = c.well-formed in
-    let n : length a.t2 ≡ 8 = search rules in
-    (c.masks_of-masks.ensures, rw c.masks_of-masks.ensures (sym (expected_are a.prefix a.t2 n)))
+    let q = c.well_formed in
+    let n : length a.segments ≡ 8 = search rules in
+    (c.masks_of-masks.ensures, rw c.masks_of-masks.ensures (sym (expected_are a.prefix a.segments n)))

@@ -5,11 +5,10 @@ use Rattle.words.specs.Tokens.{coded, by_key}
 use Rattle.words.proofs.Keys.{unknown_word, known_word}
 use native.Mathlib.Omega.{arith}
 use mathlib.Core.List.{[], ◌∷◌}
-use types.Run.{miss}
 use Rattle.words.proofs.read_word.Goals as goal
 
 pub returns-in-Unknown : goal.returns-in-Unknown
-returns-in-Unknown c = c.numeral.ensures ∙ sym (unknown_word c.args.text.now (λ i. omega (arith, c.shared_slice_known-1.given i)) (ap (λ (k : ℕ). coded (by_key keywords k)) (sym c.key.ensures) ∙ (sym c.keyword-token.ensures ∙ c.in-Unknown.is)))
+returns-in-Unknown c = c.numeral.ensures ∙ sym (unknown_word c.args.text.now (λ i. omega (arith, c.type_inv.text i)) (ap (λ (k : ℕ). coded (by_key keywords k)) (sym c.key.ensures) ∙ (sym c.keyword-token.ensures ∙ c.in-Unknown.is)))
 
 pub returns : goal.returns
-returns c = let r = c.keyword-token.ensures ∙ ap (λ (k : ℕ). coded (by_key keywords k)) c.key.ensures in r ∙ sym (known_word c.args.text.now (λ i. omega (arith, c.shared_slice_known-1.given i)) (λ e. miss (1 ∷ 2 ∷ 3 ∷ 4 ∷ 5 ∷ 6 ∷ 7 ∷ 8 ∷ 9 ∷ 10 ∷ 11 ∷ []) 0 tt (rw (r ∙ e) at c.in-Unknown.keys2)))
+returns c = let r = c.keyword-token.ensures ∙ ap (λ (k : ℕ). coded (by_key keywords k)) c.key.ensures in r ∙ sym (known_word c.args.text.now (λ i. omega (arith, c.type_inv.text i)) (λ e. c.in_default.not-Unknown (r ∙ e)))

@@ -1,0 +1,22 @@
+use borrow.Author.Rules.{rules}
+use native.Mathlib.Omega.{arith}
+use Rattle.emit.specs.Lines.{op_of, test_of}
+use Rattle.emit.proofs.Grow.{then, put_failure}
+use Rattle.codegen.specs.Emit.{check_range}
+use Rattle.conditions.proofs.check_range.Goals as goal
+
+pub push-q-requires : goal.push-q-requires
+unfolding op_of test_of check_range
+push-q-requires c = search rules
+
+pub test_failure-t-requires : goal.test_failure-t-requires
+unfolding op_of test_of check_range
+test_failure-t-requires c = let p = c.requires in omega (arith, c.push-q.ensures, c.push-q.auto)
+
+pub test_failure-requires : goal.test_failure-requires
+unfolding op_of test_of check_range
+test_failure-requires c = let p = c.requires in omega (arith, c.push-q.ensures, c.push-q.auto, c.test_failure-t.ensures, c.test_failure-t.auto)
+
+pub returns : goal.returns
+unfolding op_of test_of check_range
+returns c = put_failure (λ Y. then (then (c.push-q.ensures.grew Y _) (c.test_failure-t.ensures.grew Y)) (c.test_failure.ensures.grew Y))

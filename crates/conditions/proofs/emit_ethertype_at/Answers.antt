@@ -1,0 +1,5 @@
+use Rattle.conditions.proofs.Starts.{ethertype_known, ethertype_tested}
+use Rattle.conditions.proofs.emit_ethertype_at.Goals as goal
+
+pub returns-then-holds : goal.returns-then-holds
+returns-then-holds c = ethertype_known c.holds.ensures c.if-holds.true

@@ -1,0 +1,28 @@
+use native.Mathlib.Omega.{arith}
+use Prim.Native.Nat.{ℕ, ◌+◌}
+use mathlib.Core.List.{[]}
+use Rattle.codegen.specs.Block.{Block, byte}
+use Rattle.codegen.specs.Emit.{net_offset, check, emit_primitive}
+use Rattle.emit.proofs.Outcome.{reply_done}
+use Rattle.conditions.proofs.Sizes.{ethertype_size}
+use Rattle.conditions.proofs.Starts.{guarded_refused, guarded_grew}
+use Rattle.conditions.proofs.emit_ip6_multicast.Goals as goal
+
+abbrev block : ℕ → Block
+block n = check byte (n + 24) 0xff
+
+pub check_byte-t-requires : goal.check_byte-t-requires
+check_byte-t-requires c = let a = c.args in
+    let p = c.requires in
+    let z = ethertype_size a.link 0x86dd a.facts (reply_done (c.emit_ethertype.ensures.reply []) c.in-Done.is) in
+    omega (arith, c.emit_ethertype.auto)
+
+pub returns-in-Refused : goal.returns-in-Refused
+unfolding emit_primitive
+returns-in-Refused c = let a = c.args in
+    record { reply = λ Y. guarded_refused a.link 0x86dd a.facts (c.emit_ethertype.ensures.reply Y) c.in-Refused.is (block (net_offset a.link)) }
+
+pub returns-in-Done : goal.returns-in-Done
+unfolding emit_primitive
+returns-in-Done c = let a = c.args in
+    record { reply = λ Y. guarded_grew a.link 0x86dd a.facts (c.emit_ethertype.ensures.reply Y) block c.in-Done.is c.net_offset.ensures.0 (c.check_byte-t.ensures.grew Y) }
