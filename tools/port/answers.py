@@ -90,7 +90,22 @@ class Function:
             elif rest and any(rest[0] in f for _, f in news):
                 rest = [next(f[rest[0]] for _, f in news if rest[0] in f), *rest[1:]]
             return ".".join(["c", new, *rest])
-        return ".".join(["c", *path])
+        if first == "args" and len(path) > 1:
+            path[1] = self.parameter(path[1])
+        return ".".join(["c", first if "-" in path[0] else path[0], *path[1:]])
+
+    def parameter(self, name):
+        """A parameter that the old checker numbered, by its name."""
+        if not re.fullmatch(r"t\d+", name):
+            return plain(name)
+        last = self.function.split("::")[-1]
+        for folder, _, files in os.walk("src"):
+            for file in files:
+                m = re.search(rf"\bfn {last}\(([^)]*)\)", open(f"{folder}/{file}").read())
+                names = [it.split(":")[0].strip() for it in m[1].split(",") if ":" in it] if m else []
+                if int(name[1:]) <= len(names):
+                    return names[int(name[1:]) - 1]
+        return name
 
     def turned(self, body):
         body = STEP.sub(self.step, body)

@@ -403,7 +403,7 @@ pub struct Read {
 }
 
 // Each join reads its parts by `eval_node`, which reads each join by its function, at fewer records left.
-#[cycle(eval_and_eval_node_eval_not_eval_or)]
+#[cycle(nodes)]
 fn eval_and(tree: &[u8], i: usize, link: LinkType, frame: &[u8]) -> Read
     requires { Here tree.now i × (be 1 (place i) tree.now ≡ 1) }
     ensures { Says link frame.now tree.now i result }
@@ -417,7 +417,7 @@ fn eval_and(tree: &[u8], i: usize, link: LinkType, frame: &[u8]) -> Read
     }
 }
 
-#[cycle(eval_and_eval_node_eval_not_eval_or)]
+#[cycle(nodes)]
 fn eval_or(tree: &[u8], i: usize, link: LinkType, frame: &[u8]) -> Read
     requires { Here tree.now i × (be 1 (place i) tree.now ≡ 2) }
     ensures { Says link frame.now tree.now i result }
@@ -431,7 +431,7 @@ fn eval_or(tree: &[u8], i: usize, link: LinkType, frame: &[u8]) -> Read
     }
 }
 
-#[cycle(eval_and_eval_node_eval_not_eval_or)]
+#[cycle(nodes)]
 fn eval_not(tree: &[u8], i: usize, link: LinkType, frame: &[u8]) -> Read
     requires { Here tree.now i × (be 1 (place i) tree.now ≡ 3) }
     ensures { Says link frame.now tree.now i result }
@@ -444,7 +444,7 @@ fn eval_not(tree: &[u8], i: usize, link: LinkType, frame: &[u8]) -> Read
 }
 
 // The tree at record i.
-#[cycle(eval_and_eval_node_eval_not_eval_or)]
+#[cycle(nodes)]
 fn eval_node(tree: &[u8], i: usize, link: LinkType, frame: &[u8]) -> Read
     requires { Here tree.now i }
     ensures { Says link frame.now tree.now i result }

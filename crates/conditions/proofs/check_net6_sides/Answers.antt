@@ -11,7 +11,7 @@ use Rattle.conditions.proofs.check_net6_sides.Goals as goal
 pub check_net6-requires-in-SrcAndDst : goal.check_net6-requires-in-SrcAndDst
 check_net6-requires-in-SrcAndDst c = let a = c.args in
     let p = c.requires in
-    let q = c.well-formed in
+    let q = c.well_formed in
     let n : length a.net.masks ≡ 8 = search rules in
     let z = sized 17 (tests_short a.net.masks a.net.expected a.src n) (c.check_net6-q.ensures.grew a.success.now) in
     omega (arith, c.check_net6-q.auto)
@@ -19,7 +19,7 @@ check_net6-requires-in-SrcAndDst c = let a = c.args in
 pub otherwise-settled-requires : goal.otherwise-settled-requires
 otherwise-settled-requires c = let a = c.args in
     let p = c.requires in
-    let q = c.well-formed in
+    let q = c.well_formed in
     let n : length a.net.masks ≡ 8 = search rules in
     let g = c.check_net6-q-in-SrcOrDst.ensures.grew a.success.now in
     let z = sized 17 (tests_short a.net.masks a.net.expected a.src n) g in
@@ -28,7 +28,7 @@ otherwise-settled-requires c = let a = c.args in
 pub check_net6-requires-in-SrcOrDst : goal.check_net6-requires-in-SrcOrDst
 check_net6-requires-in-SrcOrDst c = let a = c.args in
     let p = c.requires in
-    let q = c.well-formed in
+    let q = c.well_formed in
     let n : length a.net.masks ≡ 8 = search rules in
     let z = (tried 17 (tests_short a.net.masks a.net.expected a.src n) (omega arith) c.check_net6-q-in-SrcOrDst.ensures c.otherwise-settled.ensures refl (omega arith)).size in
     omega (arith, c.check_net6-q-in-SrcOrDst.auto, c.otherwise-settled.auto)
@@ -49,7 +49,7 @@ pub returns-in-SrcOrDst : goal.returns-in-SrcOrDst
 unfolding check_blocks
 returns-in-SrcOrDst c = let a = c.args in
     let p = c.requires in
-    let q = c.well-formed in
+    let q = c.well_formed in
     let n : length a.net.masks ≡ 8 = search rules in
     let z = tried 17 (tests_short a.net.masks a.net.expected a.src n) (omega arith) c.check_net6-q-in-SrcOrDst.ensures c.otherwise-settled.ensures refl (omega arith) in
     rw c.in-SrcOrDst.is (then z.grew (c.check_net6-in-SrcOrDst.ensures.grew _))

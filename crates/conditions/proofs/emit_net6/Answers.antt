@@ -27,7 +27,7 @@ returns-in-Refused c = bind_refused (c.emit_ethertype.ensures.reply _) c.in-Refu
 pub returns-in-Done : goal.returns-in-Done
 unfolding guarded
 returns-in-Done c = let a = c.args in
-    let q = c.well-formed in
+    let q = c.well_formed in
     let n : length a.segments ≡ 8 = search rules in
     let h : Each Half a.segments = halves a.segments _ q.1.1.1.1.1.1.1.1.0.1.1 in
     let f = net_offset a.link in
