@@ -109,6 +109,7 @@ class Function:
 
     def turned(self, body):
         body = STEP.sub(self.step, body)
+        body = re.sub(r"(resolve_all[^\s(){},.]*\.new)\.0\b", r"\1.insns", body)
         # A name that was given to a place is read as the place.
         body = re.sub(r"(c\.wrapping_[a-z]+_u32[^\s(){},.]*\.ensures)(?![.\w])", r"\1.value", body)
         for alias in re.findall(r"let (\w+) = c in", body):

@@ -18,7 +18,7 @@ use error::Refusal;
 // ---- joins
 
 // The tree at record i.
-#[cycle(emit_and_emit_arms_emit_expr_emit_not_emit_or_emit_right)]
+#[cycle(emission)]
 fn emit_expr(
     tree: &[u8],
     notes: &[u64],
@@ -43,7 +43,7 @@ fn emit_expr(
 }
 
 // Left falls through to right on success.
-#[cycle(emit_and_emit_arms_emit_expr_emit_not_emit_or_emit_right)]
+#[cycle(emission)]
 fn emit_and(
     tree: &[u8],
     notes: &[u64],
@@ -82,7 +82,7 @@ fn emit_and(
 }
 
 // The guards of both sides, and then the two sides.
-#[cycle(emit_and_emit_arms_emit_expr_emit_not_emit_or_emit_right)]
+#[cycle(emission)]
 fn emit_or(
     tree: &[u8],
     notes: &[u64],
@@ -109,7 +109,7 @@ fn emit_or(
 }
 
 // Left's failures go to right; left's success jumps past right.
-#[cycle(emit_and_emit_arms_emit_expr_emit_not_emit_or_emit_right)]
+#[cycle(emission)]
 fn emit_arms(
     tree: &[u8],
     notes: &[u64],
@@ -153,7 +153,7 @@ fn emit_arms(
 }
 
 // The right side; after it the facts of both sides meet.
-#[cycle(emit_and_emit_arms_emit_expr_emit_not_emit_or_emit_right)]
+#[cycle(emission)]
 fn emit_right(
     tree: &[u8],
     notes: &[u64],
@@ -184,7 +184,7 @@ fn emit_right(
 }
 
 // The inner failures are the successes here, so the two stacks change places.
-#[cycle(emit_and_emit_arms_emit_expr_emit_not_emit_or_emit_right)]
+#[cycle(emission)]
 fn emit_not(
     tree: &[u8],
     notes: &[u64],
