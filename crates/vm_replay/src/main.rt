@@ -11,15 +11,16 @@
 //   8-9    how many zeros follow the program's stored bytes
 //   10-11  how many zeros follow the frame's
 #![tactic(auto)]
-ghost use Rattle.std.specs.Prelude.{◌≤◌, ◌<◌, ◌≡◌};
+ghost use Rattle.std.specs.Prelude.{◌≤◌, ◌<◌, ◌≡◌, IfOk, length};
 ghost use Rattle.vm.specs.Machine.{refusal_of, verdict_of, steps_of};
 
 use error::refusal_number;
-use libc::{STDIN_FILENO, STDOUT_FILENO};
+use std::io;
+use std::io::{BufReader, BufWriter, Read, Write};
 use vm::{RunResult, Verdict, verdict_number};
 
 // What a run says, in the numbers of a case.
-#[derive(Drop)]
+#[derive(Clone, Copy)]
 struct Said {
     refusal: u32,
     answer: u8,
@@ -28,20 +29,20 @@ struct Said {
 }
 
 // The bytes of a program or a frame: so many are stored, zeros follow up to the length.
-#[derive(Drop)]
+#[derive(Clone, Copy)]
 struct Size {
     stored: usize,
     length: usize,
 }
 
-#[derive(Drop)]
+#[derive(Clone, Copy)]
 struct Case {
     said: Said,
     program: Size,
     frame: Size,
 }
 
-#[derive(Drop)]
+#[derive(Clone, Copy)]
 struct Tally {
     runs: u64,
     differences: u64,
@@ -59,7 +60,9 @@ fn answer_number(v: Verdict) -> u8 {
 }
 
 fn said_of(r: RunResult) -> Said
-    ensures { (result.refusal ≡ refusal_of r) × (result.verdict ≡ verdict_of r) × (result.steps ≡ steps_of r) }
+    ensures refusal { result.refusal ≡ refusal_of r }
+    ensures verdict { result.verdict ≡ verdict_of r }
+    ensures steps { result.steps ≡ steps_of r }
 {
     match r {
         RunResult::Ran(o) => {
@@ -93,7 +96,8 @@ fn half(high: u8, low: u8) -> u32
 }
 
 fn size_of(stored: u32, zeros: u32) -> Size
-    requires { (stored < 65536) × (zeros < 65536) }
+    requires stored { stored < 65536 }
+    requires zeros { zeros < 65536 }
 {
     Size {
         stored: stored as usize,
@@ -114,17 +118,32 @@ fn case_of(h: &[u8; 12]) -> Case {
     }
 }
 
+// Reads to the front of a buffer, until it is full or the input ends, and answers how many bytes came.
+fn read_full<R: Read>(input: &mut R, buffer: &mut [u8]) -> io::Result<usize>
+    ensures { IfOk result (λ n. n ≤ length buffer.new) }
+{
+    let mut done = 0;
+    while done < buffer.len() {
+        let n = input.read(&mut buffer[done..])?;
+        if n == 0 {
+            break;
+        }
+        done += n;
+    }
+    Ok(done)
+}
+
 // Reads the stored bytes to the front of a buffer of zeros. False: the buffer is too small, or the input ends.
-fn fill(buffer: &mut [u8], size: Size) -> bool {
+fn fill<R: Read>(input: &mut R, buffer: &mut [u8], size: Size) -> io::Result<bool> {
     let n = size.stored;
     if buffer.len() < size.length {
-        return false;
+        return Ok(false);
     }
     if buffer.len() < n {
-        return false;
+        return Ok(false);
     }
-    let got = io::read_full(STDIN_FILENO, &mut buffer[0..n]);
-    got == n
+    let got = read_full(input, &mut buffer[0..n])?;
+    Ok(got == n)
 }
 
 // The first n bytes.
@@ -146,113 +165,117 @@ fn unread() -> Said {
     }
 }
 
-fn run_case(program: Size, frame: Size) -> Said {
+fn run_case<R: Read>(input: &mut R, program: Size, frame: Size) -> io::Result<Said> {
     let mut p = [0u8; 65600];
-    if !fill(&mut p, program) {
-        return unread();
+    if !fill(input, &mut p, program)? {
+        return Ok(unread());
     }
     let mut f = [0u8; 65600];
-    if !fill(&mut f, frame) {
-        return unread();
+    if !fill(input, &mut f, frame)? {
+        return Ok(unread());
     }
-    said_of(machine::run(first(&p, program.length), first(&f, frame.length)))
+    let result = machine::run(first(&p, program.length), first(&f, frame.length));
+    Ok(said_of(result))
 }
 
 // ---- the output
 
-fn text(s: &[u8]) {
-    io::write_all(STDOUT_FILENO, s);
+fn text<W: Write>(out: &mut W, s: &[u8]) -> io::Result<()> {
+    out.write_all(s)
 }
 
-fn number(n: u64) {
-    io::print_decimal(STDOUT_FILENO, n);
+fn number<W: Write>(out: &mut W, n: u64) -> io::Result<()> {
+    write!(out, "{n}")
 }
 
-fn print_said(s: Said) {
-    text(b"refusal ");
-    number(s.refusal as u64);
-    text(b" answer ");
-    number(s.answer as u64);
-    text(b" verdict ");
-    number(s.verdict as u64);
-    text(b" steps ");
-    number(s.steps as u64);
+fn print_said<W: Write>(out: &mut W, s: Said) -> io::Result<()> {
+    text(out, b"refusal ")?;
+    number(out, s.refusal as u64)?;
+    text(out, b" answer ")?;
+    number(out, s.answer as u64)?;
+    text(out, b" verdict ")?;
+    number(out, s.verdict as u64)?;
+    text(out, b" steps ")?;
+    number(out, s.steps as u64)
 }
 
-fn print_difference(group: &[u8], index: u64, here: Said, stored: Said) {
-    text(group);
-    text(b" ");
-    number(index);
-    text(b": ");
-    print_said(here);
-    text(b", stored ");
-    print_said(stored);
-    text(b"\n");
+fn print_difference<W: Write>(out: &mut W, group: &[u8], index: u64, here: Said, stored: Said) -> io::Result<()> {
+    text(out, group)?;
+    text(out, b" ")?;
+    number(out, index)?;
+    text(out, b": ")?;
+    print_said(out, here)?;
+    text(out, b", stored ")?;
+    print_said(out, stored)?;
+    text(out, b"\n")
 }
 
-fn print_tally(t: Tally) {
-    number(t.runs);
-    text(b" runs, ");
-    number(t.differences);
-    text(b" differences\n");
+fn print_tally<W: Write>(out: &mut W, t: Tally) -> io::Result<()> {
+    number(out, t.runs)?;
+    text(out, b" runs, ")?;
+    number(out, t.differences)?;
+    text(out, b" differences\n")
 }
 
 // ---- the groups
 
 // Runs the next case, and answers whether the run says what is stored.
-fn replay(group: &[u8], index: u64) -> bool {
+fn replay<R: Read, W: Write>(input: &mut R, out: &mut W, group: &[u8], index: u64) -> io::Result<bool> {
     let mut head = [0u8; 12];
-    let got = io::read_full(STDIN_FILENO, &mut head);
+    let got = read_full(input, &mut head)?;
     if got < 12 {
-        return false;
+        return Ok(false);
     }
     let c = case_of(&head);
-    let here = run_case(c.program, c.frame);
+    let here = run_case(input, c.program, c.frame)?;
     if same(here, c.said) {
-        return true;
+        return Ok(true);
     }
-    print_difference(group, index, here, c.said);
-    false
+    print_difference(out, group, index, here, c.said)?;
+    Ok(false)
 }
 
 // Of the next cases, so many.
-fn count_differences(group: &[u8], runs: u64) -> u64
-    ensures { result ≤ runs }
+fn count_differences<R: Read, W: Write>(input: &mut R, out: &mut W, group: &[u8], runs: u64) -> io::Result<u64>
+    ensures { IfOk result (λ n. n ≤ runs) }
 {
     let mut differences: u64 = 0;
-    let mut index: u64 = 0;
-    while index < runs {
-        if !replay(group, index) {
+    for index in 0..runs {
+        if !replay(input, out, group, index)? {
             differences += 1;
         }
-        index += 1;
     }
-    differences
+    Ok(differences)
 }
 
-fn replay_group(group: &[u8]) -> Tally
-    ensures { (result.runs < 65536) × (result.differences < 65536) }
+fn replay_group<R: Read, W: Write>(input: &mut R, out: &mut W, group: &[u8]) -> io::Result<Tally>
+    ensures runs { IfOk result (λ t. t.runs < 65536) }
+    ensures differences { IfOk result (λ t. t.differences < 65536) }
 {
     let mut count = [0u8; 2];
-    io::read_full(STDIN_FILENO, &mut count);
+    read_full(input, &mut count)?;
     let runs = half(count[0], count[1]) as u64;
     let t = Tally {
         runs: runs,
-        differences: count_differences(group, runs),
+        differences: count_differences(input, out, group, runs)?,
     };
-    text(group);
-    text(b": ");
-    print_tally(t);
-    t
+    text(out, group)?;
+    text(out, b": ")?;
+    print_tally(out, t)?;
+    Ok(t)
 }
 
-fn main() {
-    let a = replay_group(b"hand-made");
-    let b = replay_group(b"every code");
-    let c = replay_group(b"random");
-    let d = replay_group(b"refusals");
-    print_tally(Tally {
+fn main(rt: HostRuntime) -> io::Result<()> {
+    let mut input = BufReader::new(rt.alloc(), rt.reader())?;
+    let mut out = BufWriter::new(rt.alloc(), io::writer(&rt))?;
+    let a = replay_group(&mut input, &mut out, b"hand-made")?;
+    let b = replay_group(&mut input, &mut out, b"every code")?;
+    let c = replay_group(&mut input, &mut out, b"random")?;
+    let d = replay_group(&mut input, &mut out, b"refusals")?;
+    let all = Tally {
         runs: a.runs + b.runs + c.runs + d.runs,
         differences: a.differences + b.differences + c.differences + d.differences,
-    });
+    };
+    print_tally(&mut out, all)?;
+    out.flush()
 }
