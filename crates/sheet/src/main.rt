@@ -1,8 +1,10 @@
 // The commissioning sheet, executed: each of its sentences with `ok`, or with what differs.
 #![tactic(auto)]
-ghost use Rattle.std.specs.Prelude.{◌≤◌, ◌<◌};
 
-use libc::STDOUT_FILENO;
+ghost use Rattle.std.specs.Prelude.{◌≤◌, ◌<◌, IfOk};
+
+use std::io;
+use std::io::{BufWriter, Write};
 
 type Tree = [u8; 3080];
 
@@ -49,7 +51,7 @@ const SHORT: u64 = 3;
 // ---- tree files
 
 // What the sheet's records hold: kind, direction, protocol and A's low byte. All else is zero.
-#[derive(Drop)]
+#[derive(Clone, Copy)]
 struct Record(u8, u8, u8, u8);
 
 fn plain(kind: u8) -> Record {
@@ -93,12 +95,11 @@ fn put(tree: &mut Tree, i: u8, r: Record)
 
 // The same for the records from one number up to another.
 fn fill(tree: &mut Tree, from: u8, to: u8, r: Record)
-    requires { (from ≤ to) × (to ≤ 128) }
+    requires order { from ≤ to }
+    requires room { to ≤ 128 }
 {
-    let mut i = from;
-    while i < to {
+    for i in from..to {
         put(tree, i, r);
-        i += 1;
     }
 }
 
@@ -192,229 +193,250 @@ fn k(program: &Program, i: usize) -> u64
 
 // ---- the output
 
-fn text(s: &[u8]) {
-    io::write_all(STDOUT_FILENO, s);
+fn text<W: Write>(out: &mut W, s: &[u8]) -> io::Result<()> {
+    out.write_all(s)
 }
 
-fn number(n: u64) {
-    io::print_decimal(STDOUT_FILENO, n);
+fn number<W: Write>(out: &mut W, n: u64) -> io::Result<()> {
+    write!(out, "{n}")
 }
 
 // Whether a number is the one that is wanted; else it is named.
-fn same(what: &[u8], here: u64, wanted: u64) -> bool {
+fn same<W: Write>(out: &mut W, what: &[u8], here: u64, wanted: u64) -> io::Result<bool> {
     if here == wanted {
-        return true;
+        return Ok(true);
     }
-    text(what);
-    text(b" is ");
-    number(here);
-    text(b", not ");
-    number(wanted);
-    text(b"; ");
-    false
+    text(out, what)?;
+    text(out, b" is ")?;
+    number(out, here)?;
+    text(out, b", not ")?;
+    number(out, wanted)?;
+    text(out, b"; ")?;
+    Ok(false)
 }
 
 // The same for the answer of a build: a count, or a refusal.
-fn counted(answer: u32, count: u64) -> bool {
-    let a = same(b"the refusal", (answer / 65536) as u64, 0);
-    let b = same(b"the count", (answer % 65536) as u64, count);
-    a && b
+fn counted<W: Write>(out: &mut W, answer: u32, count: u64) -> io::Result<bool> {
+    let a = same(out, b"the refusal", (answer / 65536) as u64, 0)?;
+    let b = same(out, b"the count", (answer % 65536) as u64, count)?;
+    Ok(a && b)
 }
 
-fn refused(answer: u32, refusal: u64) -> bool {
-    same(b"the refusal", (answer / 65536) as u64, refusal)
+fn refused<W: Write>(out: &mut W, answer: u32, refusal: u64) -> io::Result<bool> {
+    same(out, b"the refusal", (answer / 65536) as u64, refusal)
 }
 
 // And of a run: the verdict's number and the steps.
-fn ended(answer: u32, verdict: u64, steps: u64) -> bool {
-    let a = same(b"the verdict", (answer / 65536) as u64, verdict);
-    let b = same(b"the steps", (answer % 65536) as u64, steps);
-    a && b
+fn ended<W: Write>(out: &mut W, answer: u32, verdict: u64, steps: u64) -> io::Result<bool> {
+    let a = same(out, b"the verdict", (answer / 65536) as u64, verdict)?;
+    let b = same(out, b"the steps", (answer % 65536) as u64, steps)?;
+    Ok(a && b)
 }
 
 // And of an instruction: its code and k, jt, jf.
-fn line_is(program: &Program, i: usize, wanted_code: u64, wanted_k: u64) -> bool
+fn line_is<W: Write>(
+    out: &mut W,
+    program: &Program,
+    i: usize,
+    wanted_code: u64,
+    wanted_k: u64,
+) -> io::Result<bool>
     requires { i < 4096 }
 {
-    let a = same(b"a code", code(program, i), wanted_code);
-    let b = same(b"a k", k(program, i), wanted_k);
-    a && b
+    let a = same(out, b"a code", code(program, i), wanted_code)?;
+    let b = same(out, b"a k", k(program, i), wanted_k)?;
+    Ok(a && b)
 }
 
-fn jt_is(program: &Program, i: usize, wanted: u64) -> bool
+fn jt_is<W: Write>(out: &mut W, program: &Program, i: usize, wanted: u64) -> io::Result<bool>
     requires { i < 4096 }
 {
-    same(b"a jt", jt(program, i), wanted)
+    same(out, b"a jt", jt(program, i), wanted)
 }
 
-fn jf_is(program: &Program, i: usize, wanted: u64) -> bool
+fn jf_is<W: Write>(out: &mut W, program: &Program, i: usize, wanted: u64) -> io::Result<bool>
     requires { i < 4096 }
 {
-    same(b"a jf", jf(program, i), wanted)
+    same(out, b"a jf", jf(program, i), wanted)
 }
 
 // Ends a line, and answers how many lines differ: none or one.
-fn outcome(good: bool) -> u32
-    ensures { result ≤ 1 }
+fn outcome<W: Write>(out: &mut W, good: bool) -> io::Result<u32>
+    ensures { IfOk result (λ n. n ≤ 1) }
 {
     if good {
-        text(b"ok\n");
-        return 0;
+        text(out, b"ok\n")?;
+        return Ok(0);
     }
-    text(b"DIFFERS\n");
-    1
+    text(out, b"DIFFERS\n")?;
+    Ok(1)
 }
 
 // ---- the sheet's lines; each function answers how many differ
 
-fn raw_ip_ip() -> u32
-    ensures { result ≤ 1 }
+fn raw_ip_ip<W: Write>(out: &mut W) -> io::Result<u32>
+    ensures { IfOk result (λ n. n ≤ 1) }
 {
-    text(b"RawIp, Ip: two returns: ");
+    text(out, b"RawIp, Ip: two returns: ")?;
     let tree = one(RAW_IP, protocol(IP));
     let mut program = [0u8; 32768];
-    let a = counted(built(tree, 1, &mut program), 2);
-    let b = line_is(&program, 0, 6, 4294967295);
-    let c = line_is(&program, 1, 6, 0);
-    outcome(a && b && c)
+    let a = counted(out, built(tree, 1, &mut program), 2)?;
+    let b = line_is(out, &program, 0, 6, 4294967295)?;
+    let c = line_is(out, &program, 1, 6, 0)?;
+    outcome(out, a && b && c)
 }
 
-fn ethernet_ip() -> u32
-    ensures { result ≤ 1 }
+fn ethernet_ip<W: Write>(out: &mut W) -> io::Result<u32>
+    ensures { IfOk result (λ n. n ≤ 1) }
 {
-    text(b"Ethernet, Ip: jf 1 at index 1, four instructions: ");
+    text(out, b"Ethernet, Ip: jf 1 at index 1, four instructions: ")?;
     let tree = one(ETHERNET, protocol(IP));
     let mut program = [0u8; 32768];
-    let a = counted(built(tree, 1, &mut program), 4);
-    let b = jf_is(&program, 1, 1);
-    outcome(a && b)
+    let a = counted(out, built(tree, 1, &mut program), 4)?;
+    let b = jf_is(out, &program, 1, 1)?;
+    outcome(out, a && b)
 }
 
 // The same program over a frame.
-fn ip_on(frame: &[u8], verdict: u64, steps: u64) -> u32
-    ensures { result ≤ 1 }
+fn ip_on<W: Write>(out: &mut W, frame: &[u8], verdict: u64, steps: u64) -> io::Result<u32>
+    ensures { IfOk result (λ n. n ≤ 1) }
 {
     let tree = one(ETHERNET, protocol(IP));
     let mut program = [0u8; 32768];
-    let a = counted(built(tree, 1, &mut program), 4);
-    let b = ended(ran(program, 4, frame), verdict, steps);
-    outcome(a && b)
+    let a = counted(out, built(tree, 1, &mut program), 4)?;
+    let b = ended(out, ran(program, 4, frame), verdict, steps)?;
+    outcome(out, a && b)
 }
 
-fn ip_on_13() -> u32
-    ensures { result ≤ 1 }
+fn ip_on_13<W: Write>(out: &mut W) -> io::Result<u32>
+    ensures { IfOk result (λ n. n ≤ 1) }
 {
-    text(b"Ethernet, Ip, on 13 bytes: short after 1 step: ");
+    text(out, b"Ethernet, Ip, on 13 bytes: short after 1 step: ")?;
     let frame = [0u8; 13];
-    ip_on(&frame, SHORT, 1)
+    ip_on(out, &frame, SHORT, 1)
 }
 
-fn ip_on_14() -> u32
-    ensures { result ≤ 1 }
+fn ip_on_14<W: Write>(out: &mut W) -> io::Result<u32>
+    ensures { IfOk result (λ n. n ≤ 1) }
 {
-    text(b"Ethernet, Ip, on 14 bytes ending 08 00: accepted after 3: ");
+    text(
+        out,
+        b"Ethernet, Ip, on 14 bytes ending 08 00: accepted after 3: ",
+    )?;
     let mut frame = [0u8; 14];
     frame[12] = 8;
-    ip_on(&frame, ACCEPTED, 3)
+    ip_on(out, &frame, ACCEPTED, 3)
 }
 
-fn tcp_or_udp() -> u32
-    ensures { result ≤ 1 }
+fn tcp_or_udp<W: Write>(out: &mut W) -> io::Result<u32>
+    ensures { IfOk result (λ n. n ≤ 1) }
 {
-    text(b"Tcp or Udp: nine; jf 6, 1, 1 at 1, 3, 6; ja 2 at 4: ");
+    text(out, b"Tcp or Udp: nine; jf 6, 1, 1 at 1, 3, 6; ja 2 at 4: ")?;
     let tree = joined(OR, protocol(TCP), protocol(UDP));
     let mut program = [0u8; 32768];
-    let a = counted(built(tree, 3, &mut program), 9);
-    let b = jf_is(&program, 1, 6);
-    let c = jf_is(&program, 3, 1);
-    let d = jf_is(&program, 6, 1);
-    let e = line_is(&program, 4, 5, 2);
-    outcome(a && b && c && d && e)
+    let a = counted(out, built(tree, 3, &mut program), 9)?;
+    let b = jf_is(out, &program, 1, 6)?;
+    let c = jf_is(out, &program, 3, 1)?;
+    let d = jf_is(out, &program, 6, 1)?;
+    let e = line_is(out, &program, 4, 5, 2)?;
+    outcome(out, a && b && c && d && e)
 }
 
-fn web() -> u32
-    ensures { result ≤ 1 }
+fn web<W: Write>(out: &mut W) -> io::Result<u32>
+    ensures { IfOk result (λ n. n ≤ 1) }
 {
-    text(b"Tcp and Tcp destination port 80: eleven; jf 8, 6, 1 at 1, 3, 8; jt 4 at 5: ");
+    text(
+        out,
+        b"Tcp and Tcp destination port 80: eleven; jf 8, 6, 1 at 1, 3, 8; jt 4 at 5: ",
+    )?;
     let tree = joined(AND, protocol(TCP), port(DESTINATION, TCP, 80));
     let mut program = [0u8; 32768];
-    let a = counted(built(tree, 3, &mut program), 11);
-    let b = jf_is(&program, 1, 8);
-    let c = jf_is(&program, 3, 6);
-    let d = jf_is(&program, 8, 1);
-    let e = jt_is(&program, 5, 4);
-    outcome(a && b && c && d && e)
+    let a = counted(out, built(tree, 3, &mut program), 11)?;
+    let b = jf_is(out, &program, 1, 8)?;
+    let c = jf_is(out, &program, 3, 6)?;
+    let d = jf_is(out, &program, 8, 1)?;
+    let e = jt_is(out, &program, 5, 4)?;
+    outcome(out, a && b && c && d && e)
 }
 
-fn port_53() -> u32
-    ensures { result ≤ 1 }
+fn port_53<W: Write>(out: &mut W) -> io::Result<u32>
+    ensures { IfOk result (λ n. n ≤ 1) }
 {
-    text(b"Port 53, none, either: twenty; jt 8 at 1: ");
+    text(out, b"Port 53, none, either: twenty; jt 8 at 1: ")?;
     let tree = one(ETHERNET, port(EITHER, NONE, 53));
     let mut program = [0u8; 32768];
-    let a = counted(built(tree, 1, &mut program), 20);
-    let b = jt_is(&program, 1, 8);
-    outcome(a && b)
+    let a = counted(out, built(tree, 1, &mut program), 20)?;
+    let b = jt_is(out, &program, 1, 8)?;
+    outcome(out, a && b)
 }
 
-fn prefix_0() -> u32
-    ensures { result ≤ 1 }
+fn prefix_0<W: Write>(out: &mut W) -> io::Result<u32>
+    ensures { IfOk result (λ n. n ≤ 1) }
 {
-    text(b"IPv6 net, prefix 0, either: five: ");
+    text(out, b"IPv6 net, prefix 0, either: five: ")?;
     let tree = one(ETHERNET, plain(NET6));
     let mut program = [0u8; 32768];
-    outcome(counted(built(tree, 1, &mut program), 5))
+    let a = counted(out, built(tree, 1, &mut program), 5)?;
+    outcome(out, a)
 }
 
 // The end of a line whose tree is refused.
-fn turned_down(tree: Tree, records: usize, refusal: u64) -> u32
+fn turned_down<W: Write>(out: &mut W, tree: Tree, records: usize, refusal: u64) -> io::Result<u32>
     requires { records ≤ 128 }
-    ensures { result ≤ 1 }
+    ensures { IfOk result (λ n. n ≤ 1) }
 {
     let mut program = [0u8; 32768];
-    outcome(refused(built(tree, records, &mut program), refusal))
+    let a = refused(out, built(tree, records, &mut program), refusal)?;
+    outcome(out, a)
 }
 
-fn refusals() -> u32
-    ensures { result ≤ 4 }
+fn refusals<W: Write>(out: &mut W) -> io::Result<u32>
+    ensures { IfOk result (λ n. n ≤ 4) }
 {
-    text(b"RawIp, Ip6: 5: ");
-    let a = turned_down(one(RAW_IP, protocol(IP6)), 1, 5);
-    text(b"Port with Icmp: 6: ");
-    let b = turned_down(one(ETHERNET, port(EITHER, ICMP, 53)), 1, 6);
-    text(b"RawIp, (port with Icmp and Icmp6) or Icmp6: 5, not 6: ");
-    let c = turned_down(clash(), 5, 5);
-    text(b"RawIp, ether multicast: 7: ");
-    let d = turned_down(one(RAW_IP, plain(ETHER_MULTICAST)), 1, 7);
-    a + b + c + d
+    text(out, b"RawIp, Ip6: 5: ")?;
+    let a = turned_down(out, one(RAW_IP, protocol(IP6)), 1, 5)?;
+    text(out, b"Port with Icmp: 6: ")?;
+    let b = turned_down(out, one(ETHERNET, port(EITHER, ICMP, 53)), 1, 6)?;
+    text(
+        out,
+        b"RawIp, (port with Icmp and Icmp6) or Icmp6: 5, not 6: ",
+    )?;
+    let c = turned_down(out, clash(), 5, 5)?;
+    text(out, b"RawIp, ether multicast: 7: ")?;
+    let d = turned_down(out, one(RAW_IP, plain(ETHER_MULTICAST)), 1, 7)?;
+    Ok(a + b + c + d)
 }
 
 // Its first test jumps to the last return: 258 instructions.
-fn distance_255() -> u32
-    ensures { result ≤ 1 }
+fn distance_255<W: Write>(out: &mut W) -> io::Result<u32>
+    ensures { IfOk result (λ n. n ≤ 1) }
 {
     text(
+        out,
         b"Seven ether multicasts, an IPv6 source host, seven IPv6 hosts in both, joined by and from the left: distance 255, accepted: ",
-    );
+    )?;
     let tree = far(BOTH);
     let mut program = [0u8; 32768];
-    let a = counted(built(tree, 29, &mut program), 258);
-    let b = jf_is(&program, 1, 255);
-    outcome(a && b)
+    let a = counted(out, built(tree, 29, &mut program), 258)?;
+    let b = jf_is(out, &program, 1, 255)?;
+    outcome(out, a && b)
 }
 
-fn distance_256() -> u32
-    ensures { result ≤ 1 }
+fn distance_256<W: Write>(out: &mut W) -> io::Result<u32>
+    ensures { IfOk result (λ n. n ≤ 1) }
 {
-    text(b"The last host with either: 256, number 8: ");
-    turned_down(far(EITHER), 29, 8)
+    text(out, b"The last host with either: 256, number 8: ")?;
+    turned_down(out, far(EITHER), 29, 8)
 }
 
-fn main() {
-    let a = raw_ip_ip() + ethernet_ip() + ip_on_13() + ip_on_14();
-    let b = tcp_or_udp() + web() + port_53() + prefix_0();
-    let c = refusals() + distance_255() + distance_256();
-    text(b"14 lines, ");
-    number((a + b + c) as u64);
-    text(b" differ\n");
+fn main(rt: HostRuntime) -> io::Result<()> {
+    let mut out = BufWriter::new(rt.alloc(), io::writer(&rt))?;
+    let mut differing = raw_ip_ip(&mut out)? + ethernet_ip(&mut out)?;
+    differing += ip_on_13(&mut out)? + ip_on_14(&mut out)?;
+    differing += tcp_or_udp(&mut out)? + web(&mut out)? + port_53(&mut out)? + prefix_0(&mut out)?;
+    differing += refusals(&mut out)? + distance_255(&mut out)? + distance_256(&mut out)?;
+    text(&mut out, b"14 lines, ")?;
+    number(&mut out, differing as u64)?;
+    text(&mut out, b" differ\n")?;
+    out.flush()
 }

@@ -11,6 +11,7 @@
 //   8-9    how many zeros follow the program's stored bytes
 //   10-11  how many zeros follow the frame's
 #![tactic(auto)]
+
 ghost use Rattle.std.specs.Prelude.{◌≤◌, ◌<◌, ◌≡◌, IfOk, length};
 ghost use Rattle.vm.specs.Machine.{refusal_of, verdict_of, steps_of};
 
@@ -199,7 +200,13 @@ fn print_said<W: Write>(out: &mut W, s: Said) -> io::Result<()> {
     number(out, s.steps as u64)
 }
 
-fn print_difference<W: Write>(out: &mut W, group: &[u8], index: u64, here: Said, stored: Said) -> io::Result<()> {
+fn print_difference<W: Write>(
+    out: &mut W,
+    group: &[u8],
+    index: u64,
+    here: Said,
+    stored: Said,
+) -> io::Result<()> {
     text(out, group)?;
     text(out, b" ")?;
     number(out, index)?;
@@ -220,7 +227,12 @@ fn print_tally<W: Write>(out: &mut W, t: Tally) -> io::Result<()> {
 // ---- the groups
 
 // Runs the next case, and answers whether the run says what is stored.
-fn replay<R: Read, W: Write>(input: &mut R, out: &mut W, group: &[u8], index: u64) -> io::Result<bool> {
+fn replay<R: Read, W: Write>(
+    input: &mut R,
+    out: &mut W,
+    group: &[u8],
+    index: u64,
+) -> io::Result<bool> {
     let mut head = [0u8; 12];
     let got = read_full(input, &mut head)?;
     if got < 12 {
@@ -236,7 +248,12 @@ fn replay<R: Read, W: Write>(input: &mut R, out: &mut W, group: &[u8], index: u6
 }
 
 // Of the next cases, so many.
-fn count_differences<R: Read, W: Write>(input: &mut R, out: &mut W, group: &[u8], runs: u64) -> io::Result<u64>
+fn count_differences<R: Read, W: Write>(
+    input: &mut R,
+    out: &mut W,
+    group: &[u8],
+    runs: u64,
+) -> io::Result<u64>
     ensures { IfOk result (λ n. n ≤ runs) }
 {
     let mut differences: u64 = 0;
