@@ -9,9 +9,11 @@
 // Each file is built into lent buffers of several lengths, and every byte of them is compared. The number 9 is this program's own: the Rust
 // has no lent buffer.
 #![tactic(auto)]
-ghost use Rattle.std.specs.Prelude.{◌<◌};
 
-use libc::{STDIN_FILENO, STDOUT_FILENO};
+ghost use Rattle.std.specs.Prelude.{◌<◌, ◌≤◌, IfOk, length};
+
+use std::io;
+use std::io::{BufReader, BufWriter, Read, Write};
 use std::num::wrapping_add_u64;
 
 // What a buffer holds before it is lent, and what has to stay behind the lent part.
@@ -27,7 +29,7 @@ const REFUSALS: usize = 16;
 type Tally = [u64; 17];
 
 // The stored answer, and the tree file's length.
-#[derive(Drop)]
+#[derive(Clone, Copy)]
 struct Case {
     refusal: u32,
     count: u32,
@@ -36,60 +38,64 @@ struct Case {
 
 // ---- the output
 
-fn text(s: &[u8]) {
-    io::write_all(STDOUT_FILENO, s);
+fn text<W: Write>(out: &mut W, s: &[u8]) -> io::Result<()> {
+    out.write_all(s)
 }
 
-fn number(n: u64) {
-    io::print_decimal(STDOUT_FILENO, n);
+fn number<W: Write>(out: &mut W, n: u64) -> io::Result<()> {
+    write!(out, "{n}")
 }
 
-fn print_answer(answer: u32) {
+fn print_answer<W: Write>(out: &mut W, answer: u32) -> io::Result<()> {
     if answer < 65536 {
-        text(b"count ");
-        number(answer as u64);
-        return;
+        text(out, b"count ")?;
+        return number(out, answer as u64);
     }
-    text(b"refused ");
-    number((answer / 65536) as u64);
+    text(out, b"refused ")?;
+    number(out, (answer / 65536) as u64)
 }
 
 // The answer here, the wanted one, and the first wrong byte, which is past the buffer's end where the answer alone is wrong.
-fn print_difference(lent: usize, here: u32, answer: u32, wrong: usize) {
-    number(lent as u64);
-    text(b" bytes lent: ");
-    print_answer(here);
-    text(b", wanted ");
-    print_answer(answer);
-    text(b", first wrong byte ");
-    number(wrong as u64);
-    text(b"\n");
+fn print_difference<W: Write>(
+    out: &mut W,
+    lent: usize,
+    here: u32,
+    answer: u32,
+    wrong: usize,
+) -> io::Result<()> {
+    number(out, lent as u64)?;
+    text(out, b" bytes lent: ")?;
+    print_answer(out, here)?;
+    text(out, b", wanted ")?;
+    print_answer(out, answer)?;
+    text(out, b", first wrong byte ")?;
+    number(out, wrong as u64)?;
+    text(out, b"\n")
 }
 
-fn print_place(group: &[u8], index: usize) {
-    text(group);
-    text(b" ");
-    number(index as u64);
+fn print_place<W: Write>(out: &mut W, group: &[u8], index: usize) -> io::Result<()> {
+    text(out, group)?;
+    text(out, b" ")?;
+    number(out, index as u64)
 }
 
 // A refusal that no build had is left out.
-fn print_refusal(refusal: usize, builds: u64) {
+fn print_refusal<W: Write>(out: &mut W, refusal: usize, builds: u64) -> io::Result<()> {
     if builds == 0 {
-        return;
+        return Ok(());
     }
-    text(b"refused ");
-    number(refusal as u64);
-    text(b": ");
-    number(builds);
-    text(b"\n");
+    text(out, b"refused ")?;
+    number(out, refusal as u64)?;
+    text(out, b": ")?;
+    number(out, builds)?;
+    text(out, b"\n")
 }
 
-fn print_refusals(tally: Tally) {
-    let mut i = 1;
-    while i < REFUSALS {
-        print_refusal(i, tally[i]);
-        i += 1;
+fn print_refusals<W: Write>(out: &mut W, tally: &Tally) -> io::Result<()> {
+    for i in 1..REFUSALS {
+        print_refusal(out, i, tally[i])?;
     }
+    Ok(())
 }
 
 // ---- the tally
@@ -126,14 +132,12 @@ fn wanted(program: &[u8], lent: usize, i: usize) -> u8 {
 
 // The first place with another byte, or the buffer's end.
 fn first_wrong(buffer: &[u8], program: &[u8], lent: usize) -> usize {
-    let mut i = 0;
-    while i < buffer.len() {
-        if buffer[i] != wanted(program, lent, i) {
+    for (i, b) in buffer.iter().enumerate() {
+        if *b != wanted(program, lent, i) {
             return i;
         }
-        i += 1;
     }
-    i
+    buffer.len()
 }
 
 // The answer of a build into the first bytes of a buffer. No build answers what is answered where they are too few.
@@ -146,7 +150,8 @@ fn build_into(file: &[u8], buffer: &mut [u8], lent: usize) -> u32 {
 
 // What a build into so many bytes has to answer.
 fn answer_of(c: Case, lent: usize) -> u32
-    requires { (c.refusal < 65536) × (c.count < 65536) }
+    requires refusal { c.refusal < 65536 }
+    requires count { c.count < 65536 }
 {
     if c.refusal != 0 {
         return c.refusal * 65536;
@@ -166,15 +171,21 @@ fn left_of(program: &[u8], answer: u32) -> &[u8] {
 }
 
 // Answers whether the build into so many bytes is as it has to be; else the difference is printed.
-fn is_right(file: &[u8], program: &[u8], lent: usize, answer: u32) -> bool {
+fn is_right<W: Write>(
+    out: &mut W,
+    file: &[u8],
+    program: &[u8],
+    lent: usize,
+    answer: u32,
+) -> io::Result<bool> {
     let mut buffer = [FILLED; 32784];
     let here = build_into(file, &mut buffer, lent);
     let wrong = first_wrong(&buffer, left_of(program, answer), lent);
     if here == answer && wrong == buffer.len() {
-        return true;
+        return Ok(true);
     }
-    print_difference(lent, here, answer, wrong);
-    false
+    print_difference(out, lent, here, answer, wrong)?;
+    Ok(false)
 }
 
 // ---- a case
@@ -210,30 +221,44 @@ fn exact_of(c: Case, index: usize) -> usize
     8 * c.count as usize
 }
 
-fn try_length(file: &[u8], program: &[u8], c: Case, lent: usize, tally: &mut Tally) -> bool
-    requires { (c.refusal < 65536) × (c.count < 65536) }
+fn try_length<W: Write>(
+    out: &mut W,
+    file: &[u8],
+    program: &[u8],
+    c: Case,
+    lent: usize,
+    tally: &mut Tally,
+) -> io::Result<bool>
+    requires refusal { c.refusal < 65536 }
+    requires count { c.count < 65536 }
 {
     let answer = answer_of(c, lent);
     add(tally, place_of(answer));
-    if is_right(file, program, lent, answer) {
-        return true;
+    if is_right(out, file, program, lent, answer)? {
+        return Ok(true);
     }
     add(tally, REFUSALS);
-    false
+    Ok(false)
 }
 
 // A build of every length; answers whether none differs.
-fn try_lengths(file: &[u8], program: &[u8], c: Case, index: usize, tally: &mut Tally) -> bool
-    requires { (c.refusal < 65536) × (c.count < 65536) }
+fn try_lengths<W: Write>(
+    out: &mut W,
+    file: &[u8],
+    program: &[u8],
+    c: Case,
+    index: usize,
+    tally: &mut Tally,
+) -> io::Result<bool>
+    requires refusal { c.refusal < 65536 }
+    requires count { c.count < 65536 }
 {
     let exact = exact_of(c, index);
-    let mut turn = 0;
     let mut good = true;
-    while turn < 5 {
-        good = try_length(file, program, c, lent_of(turn, exact, index), tally) && good;
-        turn += 1;
+    for turn in 0..5 {
+        good = try_length(out, file, program, c, lent_of(turn, exact, index), tally)? && good;
     }
-    good
+    Ok(good)
 }
 
 fn half(high: u8, low: u8) -> u32
@@ -243,7 +268,8 @@ fn half(high: u8, low: u8) -> u32
 }
 
 fn case_of(h: &[u8; 5]) -> Case
-    ensures { (result.refusal < 65536) × (result.count < 65536) }
+    ensures refusal { result.refusal < 65536 }
+    ensures count { result.count < 65536 }
 {
     Case {
         refusal: half(0, h[0]),
@@ -252,13 +278,28 @@ fn case_of(h: &[u8; 5]) -> Case
     }
 }
 
-// Reads so many bytes to the front of a buffer. False: it is too small, or the input ends.
-fn fill(buffer: &mut [u8], n: usize) -> bool {
-    if buffer.len() < n {
-        return false;
+// Reads to the front of a buffer, until it is full or the input ends, and answers how many bytes came.
+fn read_full<R: Read>(input: &mut R, buffer: &mut [u8]) -> io::Result<usize>
+    ensures { IfOk result (λ n. n ≤ length buffer.new) }
+{
+    let mut done = 0;
+    while done < buffer.len() {
+        let n = input.read(&mut buffer[done..])?;
+        if n == 0 {
+            break;
+        }
+        done += n;
     }
-    let got = io::read_full(STDIN_FILENO, &mut buffer[0..n]);
-    got == n
+    Ok(done)
+}
+
+// Reads so many bytes to the front of a buffer. False: it is too small, or the input ends.
+fn fill<R: Read>(input: &mut R, buffer: &mut [u8], n: usize) -> io::Result<bool> {
+    if buffer.len() < n {
+        return Ok(false);
+    }
+    let got = read_full(input, &mut buffer[0..n])?;
+    Ok(got == n)
 }
 
 // The first n bytes.
@@ -271,84 +312,101 @@ fn first(buffer: &[u8], n: usize) -> &[u8] {
 }
 
 // What cannot be read is a difference.
-fn unread(group: &[u8], index: usize, tally: &mut Tally) {
+fn unread<W: Write>(out: &mut W, group: &[u8], index: usize, tally: &mut Tally) -> io::Result<()> {
     add(tally, REFUSALS);
-    print_place(group, index);
-    text(b": the case cannot be read\n");
+    print_place(out, group, index)?;
+    text(out, b": the case cannot be read\n")
 }
 
-fn replay(group: &[u8], index: usize, tally: &mut Tally) {
+fn replay<R: Read, W: Write>(
+    input: &mut R,
+    out: &mut W,
+    group: &[u8],
+    index: usize,
+    tally: &mut Tally,
+) -> io::Result<()> {
     let mut head = [0u8; 5];
-    if !fill(&mut head, 5) {
-        unread(group, index, tally);
-        return;
+    if !fill(input, &mut head, 5)? {
+        return unread(out, group, index, tally);
     }
     let c = case_of(&head);
     let mut file = [0u8; 4096];
     let mut program = [0u8; 32768];
     let length = 8 * c.count as usize;
-    if !fill(&mut file, c.file) || !fill(&mut program, length) {
-        unread(group, index, tally);
-        return;
+    if !fill(input, &mut file, c.file)? || !fill(input, &mut program, length)? {
+        return unread(out, group, index, tally);
     }
-    if !try_lengths(
+    if try_lengths(
+        out,
         first(&file, c.file),
         first(&program, length),
         c,
         index,
         tally,
-    ) {
-        print_place(group, index);
-        text(b" differs\n");
+    )? {
+        return Ok(());
     }
+    print_place(out, group, index)?;
+    text(out, b" differs\n")
 }
 
 // ---- the groups
 
-fn replay_cases(group: &[u8], count: usize, tally: &mut Tally) {
-    let mut index = 0;
-    while index < count {
-        replay(group, index, tally);
-        index += 1;
+fn replay_cases<R: Read, W: Write>(
+    input: &mut R,
+    out: &mut W,
+    group: &[u8],
+    count: usize,
+    tally: &mut Tally,
+) -> io::Result<()> {
+    for index in 0..count {
+        replay(input, out, group, index, tally)?;
     }
+    Ok(())
 }
 
-fn replay_group(group: &[u8], tally: &mut Tally) {
+fn replay_group<R: Read, W: Write>(
+    input: &mut R,
+    out: &mut W,
+    group: &[u8],
+    tally: &mut Tally,
+) -> io::Result<()> {
     let mut head = [0u8; 2];
-    io::read_full(STDIN_FILENO, &mut head);
+    read_full(input, &mut head)?;
     let count = half(head[0], head[1]) as usize;
-    replay_cases(group, count, tally);
-    text(group);
-    text(b": ");
-    number(count as u64);
-    text(b" files\n");
+    replay_cases(input, out, group, count, tally)?;
+    text(out, group)?;
+    text(out, b": ")?;
+    number(out, count as u64)?;
+    text(out, b" files\n")
 }
 
-fn sum(tally: Tally) -> u64 {
+fn sum(tally: &Tally) -> u64 {
     let mut total = 0;
-    let mut i = 0;
-    while i < REFUSALS {
+    for i in 0..REFUSALS {
         total = wrapping_add_u64(total, tally[i]);
-        i += 1;
     }
     total
 }
 
-fn main() {
+fn main(rt: HostRuntime) -> io::Result<()> {
+    let mut input = BufReader::new(rt.alloc(), rt.reader())?;
+    let mut out = BufWriter::new(rt.alloc(), io::writer(&rt))?;
     let mut tally = [0u64; 17];
-    replay_group(b"conditions", &mut tally);
-    replay_group(b"pairs", &mut tally);
-    replay_group(b"ports", &mut tally);
-    replay_group(b"random", &mut tally);
-    replay_group(b"far jumps", &mut tally);
-    replay_group(b"large", &mut tally);
-    replay_group(b"damaged", &mut tally);
-    text(b"counts: ");
-    number(tally[0]);
-    text(b"\n");
-    print_refusals(tally);
-    number(sum(tally));
-    text(b" compared, ");
-    number(tally[REFUSALS]);
-    text(b" differences\n");
+    replay_group(&mut input, &mut out, b"conditions", &mut tally)?;
+    replay_group(&mut input, &mut out, b"pairs", &mut tally)?;
+    replay_group(&mut input, &mut out, b"ports", &mut tally)?;
+    replay_group(&mut input, &mut out, b"random", &mut tally)?;
+    replay_group(&mut input, &mut out, b"far jumps", &mut tally)?;
+    replay_group(&mut input, &mut out, b"large", &mut tally)?;
+    replay_group(&mut input, &mut out, b"damaged", &mut tally)?;
+    text(&mut out, b"counts: ")?;
+    number(&mut out, tally[0])?;
+    text(&mut out, b"\n")?;
+    print_refusals(&mut out, &tally)?;
+    number(&mut out, sum(&tally))?;
+    text(&mut out, b" compared, ")?;
+    number(&mut out, tally[REFUSALS])?;
+    text(&mut out, b" differences\n")?;
+    out.flush()
 }
