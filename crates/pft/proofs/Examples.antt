@@ -1,4 +1,4 @@
--- Answers of T-01, T-04 and T-05 as C gets them, computed: refusal × 2^32 + accepted frames, + captured length, or + place; refusal × 65,536 + count.
+-- Answers as C gets them, computed: refusal × 2^32 + accepted frames, + captured length, or + place; refusal × 65,536 + count.
 use mathlib.Core.Path.{◌≡◌, refl}
 use mathlib.Core.List.{List, [], ◌∷◌}
 use Prim.Native.Nat.{ℕ}

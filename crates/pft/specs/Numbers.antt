@@ -32,7 +32,7 @@ build_number r = Build.refusal_of r * 65536 + Build.count_of r
 abbrev pub direct_number : DirectResult → ℕ
 direct_number r = Direct.truth_of r + beyond (Direct.refusal_of r)
 
--- T-01, of a count: refusal × 2^32 + accepted frames
+-- of a count: refusal × 2^32 + accepted frames
 abbrev pub count_number : CountResult → ℕ
 count_number r = Counting.refusal_of r * 2 ^ 32 + (Counting.frames_in r).kept
 
@@ -41,7 +41,7 @@ abbrev pub frame_number : Out ℕ → ℕ
 frame_number (refused r) = number_of r * 2 ^ 32
 frame_number (done n) = n
 
--- T-04, of a typed line: its file's length in bytes, or refusal × 2^32 + place
+-- of a typed line: its file's length in bytes, or refusal × 2^32 + place
 abbrev pub type_number : TypeResult → ℕ
 type_number (Length n) = n
 type_number (Refused r place) = number_of r * 2 ^ 32 + place

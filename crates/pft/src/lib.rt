@@ -1,5 +1,6 @@
-// The functions that Rust and C call, each answering one number.
+// The functions that Rust and C call by the archive of the crate pft_c, each answering one number.
 #![tactic(auto)]
+
 ghost use Rattle.std.specs.Prelude.{◌≡◌, cond, ◌+◌, ◌*◌, ◌^◌, ◌≤◌, length};
 ghost use Rattle.error.specs.Answer.{number_of};
 ghost use Rattle.vm.specs.Machine as M;
