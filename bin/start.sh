@@ -63,21 +63,13 @@ newer() { # FILE CRATE PART...
     )
 }
 
-# When rt last found a program proved: at each check it leaves a word in target/log, also where nothing had changed.
-proved_at() {
-    word=$(cat "$root/target/log/$1.res" 2> /dev/null) || :
-    case $word in
-    proved | built) echo "target/log/$1.res" ;;
-    *) echo "target/bin/$1" ;;
-    esac
-}
-
-# Ends where the proved program of a crate is not made, or a source is newer than its proof.
+# Ends where the proved program of a crate is not made, or a source is newer than it.
 need() { # CRATE COMMAND
-    test -x "$root/target/bin/$1" || fail "it is not made yet. In $root: \`rt check $1\` proves what it\
+    program=target/bin/$1
+    test -x "$root/$program" || fail "it is not made yet. In $root: \`bin/make $1\` proves what it\
  stands on and makes it, in minutes; \`bin/pft --unproved $2\` does without proofs, in seconds"
-    changed=$(newer "$(proved_at "$1")" "$1" src specs proofs)
-    test -z "$changed" || fail "$changed is newer than target/bin/$1. In $root: \`rt check $1\` makes it anew"
+    changed=$(newer "$program" "$1" src specs proofs)
+    test -z "$changed" || fail "$changed is newer than $program. In $root: \`bin/make $1\` makes it anew"
 }
 
 # Runs a program, which leaves its exit status on descriptor 9 as a digit; its answers and messages go on as they are.
