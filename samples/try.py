@@ -1,5 +1,5 @@
 #!/usr/bin/env python3
-"""Runs `bin/pft` over every sample. It needs python3 and `rt check command`.
+"""Runs `bin/pft` over every sample. It needs python3 and `bin/make command`.
 
 samples/try.py
 

@@ -3,7 +3,7 @@
 
 bin/test/captures.py [SEED [COUNT]]
 
-It needs python3, and `rt check command` made before. COUNT random captures, in
+It needs python3, and `bin/make command` made before. COUNT random captures, in
 both byte orders, with both marks, whole and cut anywhere, are read from a file
 and by reads of chosen lengths; the reader and the filter below, which share
 nothing with the command, say what is to come of each. Then every message, and

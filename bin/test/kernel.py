@@ -7,7 +7,7 @@ In a network namespace of its own, on a pair of linked devices: for each sample
 tree of Ethernet a tc filter, for each of RawIp an iptables rule, then the sample
 frames are sent. The packets that match have to be as many as the frames that
 `pft run` accepts. Then the longest program that iptables takes: 64 instructions.
-It needs root, python3, ip, unshare, tc, iptables and `rt check command`. The last
+It needs root, python3, ip, unshare, tc, iptables and `bin/make command`. The last
 line is `N compared, M differences`; the status is 1 if M is not 0, and 2 if
 something is missing.
 """
@@ -139,7 +139,7 @@ def missing():
     for name in NEEDED:
         if not shutil.which(name):
             return f"there is no {name}"
-    return None if COMMAND.is_file() else f"there is no {COMMAND}; `rt check command` makes it"
+    return None if COMMAND.is_file() else f"there is no {COMMAND}; `bin/make command` makes it"
 
 
 def main():

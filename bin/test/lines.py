@@ -3,7 +3,7 @@
 
 bin/test/lines.py
 
-It needs python3, and `rt check command` made before. Answers, messages and exit
+It needs python3, and `bin/make command` made before. Answers, messages and exit
 status of each try have to be the ones that stand here. The last line is
 `N compared, M differences`; the status is 1 if M is not 0.
 """

@@ -1,5 +1,5 @@
 #!/usr/bin/env python3
-"""Compares `pft list` with libpcap. It needs python3, libpcap and `rt check command`.
+"""Compares `pft list` with libpcap. It needs python3, libpcap and `bin/make command`.
 
 bin/test/listings.py [SEED [COUNT]]
 
@@ -112,7 +112,7 @@ def main():
         print(USAGE, file=sys.stderr)
         sys.exit(2)
     if not COMMAND.is_file():
-        print(f"no {COMMAND}; make it with `rt check command`", file=sys.stderr)
+        print(f"no {COMMAND}; make it with `bin/make command`", file=sys.stderr)
         sys.exit(2)
     seed, count = (words + ["1", "1000"][len(words) :])[:2]
     with tempfile.TemporaryDirectory() as room:
