@@ -1,5 +1,6 @@
 // One classic BPF instruction: bpf.rs `Insn`, the kernel's `struct sock_filter`.
 #![tactic(auto)]
+
 #[derive(Clone, Copy)]
 pub struct Insn {
     pub code: u16,

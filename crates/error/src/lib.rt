@@ -1,5 +1,6 @@
 // The refusals, in the order of document 01's table and of the requests after it, and their numbers.
 #![tactic(auto)]
+
 ghost use Rattle.std.specs.Prelude.{◌≡◌, ◌≤◌, ◌<◌};
 ghost use Rattle.error.specs.Answer.{number_of};
 

@@ -143,11 +143,11 @@ pub emit_expr-emit_not-requires : goal.emit_expr-emit_not-requires
 emit_expr-emit_not-requires t c = (omega (arith, c.requires.0), (c.requires.0, here_not c.requires.0.here (kind_is c.args.tree.now c.args.i c.byte_at-kind.ensures c.in-3.is), c.requires.1))
 
 pub emit_expr-emit_primitive-requires : goal.emit_expr-emit_primitive-requires
-emit_expr-emit_primitive-requires t c = let n = here_leaf c.requires.0.here (kind_not c.args.tree.now c.args.i c.byte_at-kind.ensures c.in_default.in_default-own.rest.0.0.1) (kind_not c.args.tree.now c.args.i c.byte_at-kind.ensures c.in_default.in_default-own.rest.0.1) (kind_not c.args.tree.now c.args.i c.byte_at-kind.ensures c.in_default.in_default-own.rest.1) in (n.leaf, omega (arith, c.requires.1, ap weight n.tree))
+emit_expr-emit_primitive-requires t c = let n = here_leaf c.requires.0.here (kind_not c.args.tree.now c.args.i c.byte_at-kind.ensures (omega arith)) (kind_not c.args.tree.now c.args.i c.byte_at-kind.ensures (omega arith)) (kind_not c.args.tree.now c.args.i c.byte_at-kind.ensures (omega arith)) in (n.leaf, omega (arith, c.requires.1, ap weight n.tree))
 
 pub emit_expr-returns-in_default : goal.emit_expr-returns-in_default
 unfolding emit
-emit_expr-returns-in_default t c = let n = here_leaf c.requires.0.here (kind_not c.args.tree.now c.args.i c.byte_at-kind.ensures c.in_default.in_default-own.rest.0.0.1) (kind_not c.args.tree.now c.args.i c.byte_at-kind.ensures c.in_default.in_default-own.rest.0.1) (kind_not c.args.tree.now c.args.i c.byte_at-kind.ensures c.in_default.in_default-own.rest.1) in rw n.tree c.emit_primitive.ensures
+emit_expr-returns-in_default t c = let n = here_leaf c.requires.0.here (kind_not c.args.tree.now c.args.i c.byte_at-kind.ensures (omega arith)) (kind_not c.args.tree.now c.args.i c.byte_at-kind.ensures (omega arith)) (kind_not c.args.tree.now c.args.i c.byte_at-kind.ensures (omega arith)) in rw n.tree c.emit_primitive.ensures
 
 pub emit_not-otherwise-settled-requires : goal.emit_not-otherwise-settled-requires
 emit_not-otherwise-settled-requires t c = let a = c.args in

@@ -1,3 +1,4 @@
+use Rattle.std.proofs.Common.{arith}
 use mathlib.Core.Path.{◌∙◌}
 use Rattle.reader.proofs.Firsts.{kind_is, kind_not}
 use Rattle.reader.proofs.ByKind.{protocol_known, kind10, kind11, kind12, kind13, kind14, kind15, kind16, kind17, kind18, kind19, kind20, kind21, kind22, kind23, kind24}
@@ -100,4 +101,4 @@ pub returns-in_default : goal.returns-in_default
 unfolding reads_primitive
 returns-in_default c = let s = c.args.tree.now in
     let i = c.args.i in
-    rw (kind24 c.requires (kind_not s i c.byte_at-kind.ensures c.in_default.in_default-own.rest.0.0.0.0.0.0.0.0.0.0.0.0.0.1) (kind_not s i c.byte_at-kind.ensures c.in_default.in_default-own.rest.0.0.0.0.0.0.0.0.0.0.0.0.1) (kind_not s i c.byte_at-kind.ensures c.in_default.in_default-own.rest.0.0.0.0.0.0.0.0.0.0.0.1) (kind_not s i c.byte_at-kind.ensures c.in_default.in_default-own.rest.0.0.0.0.0.0.0.0.0.0.1) (kind_not s i c.byte_at-kind.ensures c.in_default.in_default-own.rest.0.0.0.0.0.0.0.0.0.1) (kind_not s i c.byte_at-kind.ensures c.in_default.in_default-own.rest.0.0.0.0.0.0.0.0.1) (kind_not s i c.byte_at-kind.ensures c.in_default.in_default-own.rest.0.0.0.0.0.0.0.1) (kind_not s i c.byte_at-kind.ensures c.in_default.in_default-own.rest.0.0.0.0.0.0.1) (kind_not s i c.byte_at-kind.ensures c.in_default.in_default-own.rest.0.0.0.0.0.1) (kind_not s i c.byte_at-kind.ensures c.in_default.in_default-own.rest.0.0.0.0.1) (kind_not s i c.byte_at-kind.ensures c.in_default.in_default-own.rest.0.0.0.1) (kind_not s i c.byte_at-kind.ensures c.in_default.in_default-own.rest.0.0.1) (kind_not s i c.byte_at-kind.ensures c.in_default.in_default-own.rest.0.1) (kind_not s i c.byte_at-kind.ensures c.in_default.in_default-own.rest.1), ← c.byte_at-in_default.ensures) c.ipv6.ensures
+    rw (kind24 c.requires (kind_not s i c.byte_at-kind.ensures (omega arith)) (kind_not s i c.byte_at-kind.ensures (omega arith)) (kind_not s i c.byte_at-kind.ensures (omega arith)) (kind_not s i c.byte_at-kind.ensures (omega arith)) (kind_not s i c.byte_at-kind.ensures (omega arith)) (kind_not s i c.byte_at-kind.ensures (omega arith)) (kind_not s i c.byte_at-kind.ensures (omega arith)) (kind_not s i c.byte_at-kind.ensures (omega arith)) (kind_not s i c.byte_at-kind.ensures (omega arith)) (kind_not s i c.byte_at-kind.ensures (omega arith)) (kind_not s i c.byte_at-kind.ensures (omega arith)) (kind_not s i c.byte_at-kind.ensures (omega arith)) (kind_not s i c.byte_at-kind.ensures (omega arith)) (kind_not s i c.byte_at-kind.ensures (omega arith)), ← c.byte_at-in_default.ensures) c.ipv6.ensures

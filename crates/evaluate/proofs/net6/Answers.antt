@@ -6,8 +6,8 @@ use Rattle.evaluate.proofs.net6.Goals as goal
 
 pub returns-then-not-is_kind : goal.returns-then-not-is_kind
 unfolding reads_primitive
-returns-then-not-is_kind c = rw (sym c.is_kind.ensures ∙ not-true _ c.if-not-is_kind.true-raw)
+returns-then-not-is_kind c = rw (sym c.is_kind.ensures ∙ c.if-not-is_kind.true)
 
 pub returns : goal.returns
 unfolding reads_primitive
-returns c = held c.is_kind.ensures (not-false _ c.if-not-is_kind.false-raw) (cc)
+returns c = held c.is_kind.ensures c.if-not-is_kind.false (cc)

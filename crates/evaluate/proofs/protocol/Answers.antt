@@ -1,3 +1,4 @@
+use Rattle.std.proofs.Common.{arith}
 use Rattle.direct.specs.Reading.{reads_proto}
 use Rattle.evaluate.proofs.Conditions.{first_left}
 use Rattle.evaluate.proofs.protocol.Goals as goal
@@ -48,4 +49,4 @@ returns-in-12 c = rw (c.in-12.is, c.ipv6-in-12.ensures)
 
 pub returns-in_default : goal.returns-in_default
 unfolding reads_proto
-returns-in_default c = let p = c.requires in rw (first_left p c.in_default.in_default-own.rest.0.0.0.0.0.0.0.0.0.0.1 c.in_default.in_default-own.rest.0.0.0.0.0.0.0.0.0.1 c.in_default.in_default-own.rest.0.0.0.0.0.0.0.0.1 c.in_default.in_default-own.rest.0.0.0.0.0.0.0.1 c.in_default.in_default-own.rest.0.0.0.0.0.0.1 c.in_default.in_default-own.rest.0.0.0.0.0.1 c.in_default.in_default-own.rest.0.0.0.0.1 c.in_default.in_default-own.rest.0.0.0.1 c.in_default.in_default-own.rest.0.0.1 c.in_default.in_default-own.rest.0.1 c.in_default.in_default-own.rest.1, c.is_kind-in_default.ensures)
+returns-in_default c = let p = c.requires in rw (first_left p (omega arith) (omega arith) (omega arith) (omega arith) (omega arith) (omega arith) (omega arith) (omega arith) (omega arith) (omega arith) (omega arith), c.is_kind-in_default.ensures)

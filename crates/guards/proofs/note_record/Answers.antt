@@ -18,7 +18,7 @@ pub noted_end-end-requires : goal.noted_end-end-requires
 noted_end-end-requires c = let p = here_not c.requires.here (kind_is c.args.tree.now c.args.i c.byte_at-kind.ensures c.in-3.is) in omega (arith, c.requires.long, p.part.within, p.part.most)
 
 pub primitive_guards-guards-requires : goal.primitive_guards-guards-requires
-primitive_guards-guards-requires c = (here_leaf c.requires.here (kind_not c.args.tree.now c.args.i c.byte_at-kind.ensures c.in_default.in_default-own.rest.0.0.1) (kind_not c.args.tree.now c.args.i c.byte_at-kind.ensures c.in_default.in_default-own.rest.0.1) (kind_not c.args.tree.now c.args.i c.byte_at-kind.ensures c.in_default.in_default-own.rest.1)).leaf
+primitive_guards-guards-requires c = (here_leaf c.requires.here (kind_not c.args.tree.now c.args.i c.byte_at-kind.ensures (omega arith)) (kind_not c.args.tree.now c.args.i c.byte_at-kind.ensures (omega arith)) (kind_not c.args.tree.now c.args.i c.byte_at-kind.ensures (omega arith))).leaf
 
 pub returns-in-1 : goal.returns-in-1
 unfolding required_guards
@@ -38,5 +38,5 @@ returns-in-3 c =
 pub returns-in_default : goal.returns-in_default
 unfolding required_guards
 returns-in_default c =
-    let p = here_leaf c.requires.here (kind_not c.args.tree.now c.args.i c.byte_at-kind.ensures c.in_default.in_default-own.rest.0.0.1) (kind_not c.args.tree.now c.args.i c.byte_at-kind.ensures c.in_default.in_default-own.rest.0.1) (kind_not c.args.tree.now c.args.i c.byte_at-kind.ensures c.in_default.in_default-own.rest.1) in
+    let p = here_leaf c.requires.here (kind_not c.args.tree.now c.args.i c.byte_at-kind.ensures (omega arith)) (kind_not c.args.tree.now c.args.i c.byte_at-kind.ensures (omega arith)) (kind_not c.args.tree.now c.args.i c.byte_at-kind.ensures (omega arith)) in
     noted_next c.requires c.note-in_default.ensures (c.primitive_guards-guards.ensures ∙ sym (ap required_guards p.tree)) (sym p.end)

@@ -79,4 +79,4 @@ returns-in-23 c = rw (kind23 c.requires (kind_is c.args.tree.now c.args.i c.byte
 
 pub returns-in_default : goal.returns-in_default
 unfolding primitive_guards
-returns-in_default c = rw (kind24 c.requires (kind_not c.args.tree.now c.args.i c.byte_at-kind.ensures c.in_default.in_default-own.rest.0.0.0.0.0.0.0.0.0.0.0.0.0.1) (kind_not c.args.tree.now c.args.i c.byte_at-kind.ensures c.in_default.in_default-own.rest.0.0.0.0.0.0.0.0.0.0.0.0.1) (kind_not c.args.tree.now c.args.i c.byte_at-kind.ensures c.in_default.in_default-own.rest.0.0.0.0.0.0.0.0.0.0.0.1) (kind_not c.args.tree.now c.args.i c.byte_at-kind.ensures c.in_default.in_default-own.rest.0.0.0.0.0.0.0.0.0.0.1) (kind_not c.args.tree.now c.args.i c.byte_at-kind.ensures c.in_default.in_default-own.rest.0.0.0.0.0.0.0.0.0.1) (kind_not c.args.tree.now c.args.i c.byte_at-kind.ensures c.in_default.in_default-own.rest.0.0.0.0.0.0.0.0.1) (kind_not c.args.tree.now c.args.i c.byte_at-kind.ensures c.in_default.in_default-own.rest.0.0.0.0.0.0.0.1) (kind_not c.args.tree.now c.args.i c.byte_at-kind.ensures c.in_default.in_default-own.rest.0.0.0.0.0.0.1) (kind_not c.args.tree.now c.args.i c.byte_at-kind.ensures c.in_default.in_default-own.rest.0.0.0.0.0.1) (kind_not c.args.tree.now c.args.i c.byte_at-kind.ensures c.in_default.in_default-own.rest.0.0.0.0.1) (kind_not c.args.tree.now c.args.i c.byte_at-kind.ensures c.in_default.in_default-own.rest.0.0.0.1) (kind_not c.args.tree.now c.args.i c.byte_at-kind.ensures c.in_default.in_default-own.rest.0.0.1) (kind_not c.args.tree.now c.args.i c.byte_at-kind.ensures c.in_default.in_default-own.rest.0.1) (kind_not c.args.tree.now c.args.i c.byte_at-kind.ensures c.in_default.in_default-own.rest.1), c.ip6_guards.ensures, c.byte_at-in_default.ensures)
+returns-in_default c = rw (kind24 c.requires (kind_not c.args.tree.now c.args.i c.byte_at-kind.ensures (omega arith)) (kind_not c.args.tree.now c.args.i c.byte_at-kind.ensures (omega arith)) (kind_not c.args.tree.now c.args.i c.byte_at-kind.ensures (omega arith)) (kind_not c.args.tree.now c.args.i c.byte_at-kind.ensures (omega arith)) (kind_not c.args.tree.now c.args.i c.byte_at-kind.ensures (omega arith)) (kind_not c.args.tree.now c.args.i c.byte_at-kind.ensures (omega arith)) (kind_not c.args.tree.now c.args.i c.byte_at-kind.ensures (omega arith)) (kind_not c.args.tree.now c.args.i c.byte_at-kind.ensures (omega arith)) (kind_not c.args.tree.now c.args.i c.byte_at-kind.ensures (omega arith)) (kind_not c.args.tree.now c.args.i c.byte_at-kind.ensures (omega arith)) (kind_not c.args.tree.now c.args.i c.byte_at-kind.ensures (omega arith)) (kind_not c.args.tree.now c.args.i c.byte_at-kind.ensures (omega arith)) (kind_not c.args.tree.now c.args.i c.byte_at-kind.ensures (omega arith)) (kind_not c.args.tree.now c.args.i c.byte_at-kind.ensures (omega arith)), c.ip6_guards.ensures, c.byte_at-in_default.ensures)

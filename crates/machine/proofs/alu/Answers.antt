@@ -1,3 +1,4 @@
+use Rattle.std.proofs.Common.{arith}
 use borrow.Author.Rules.{rules}
 use Rattle.std.proofs.Common.{sym, ap, rules, eq-eqb, ne_eqb}
 use Rattle.vm.specs.Machine.{alu}
@@ -51,4 +52,4 @@ unfolding alu
 returns-in-10 c = rw c.in-10.is
 
 pub returns-in_default : goal.returns-in_default
-returns-in_default c = sym (alu_rest c.args.op c.args.a c.args.v c.in_default.in_default-own.rest.0.0.0.0.0.0.0.0.0.1 c.in_default.in_default-own.rest.0.0.0.0.0.0.0.0.1 c.in_default.in_default-own.rest.0.0.0.0.0.0.0.1 c.in_default.in_default-own.rest.0.0.0.0.0.0.1 c.in_default.in_default-own.rest.0.0.0.0.0.1 c.in_default.in_default-own.rest.0.0.0.0.1 c.in_default.in_default-own.rest.0.0.0.1 c.in_default.in_default-own.rest.0.0.1 c.in_default.in_default-own.rest.0.1 c.in_default.in_default-own.rest.1)
+returns-in_default c = sym (alu_rest c.args.op c.args.a c.args.v (omega arith) (omega arith) (omega arith) (omega arith) (omega arith) (omega arith) (omega arith) (omega arith) (omega arith) (omega arith))

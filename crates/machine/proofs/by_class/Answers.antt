@@ -1,3 +1,4 @@
+use Rattle.std.proofs.Common.{◌%◌}
 use Rattle.std.proofs.Common.{arith, rules}
 use Rattle.vm.specs.Machine.{effect, jmp}
 use Rattle.machine.proofs.Tables.{seventh}
@@ -33,4 +34,4 @@ returns-in-6 c = rw (c.in-6.is, c.ret.ensures, c.choose.ensures)
 
 pub returns-in_default : goal.returns-in_default
 unfolding effect
-returns-in_default c = rw (seventh _ (omega arith) c.in_default.in_default-own.rest.0.0.0.0.0.0.1 c.in_default.in_default-own.rest.0.0.0.0.0.1 c.in_default.in_default-own.rest.0.0.0.0.1 c.in_default.in_default-own.rest.0.0.0.1 c.in_default.in_default-own.rest.0.0.1 c.in_default.in_default-own.rest.0.1 c.in_default.in_default-own.rest.1, c.misc.ensures)
+returns-in_default c = rw (seventh (c.args.low % 8) (omega arith) (omega arith) (omega arith) (omega arith) (omega arith) (omega arith) (omega arith) (omega arith), c.misc.ensures)

@@ -1,3 +1,4 @@
+use Rattle.std.proofs.Common.{tests, rules}
 use Rattle.output.proofs.pending_at.Reads as reads
 use Rattle.output.proofs.pending_at.Lts as lts
 use borrow.Author.Tests.{ne_eqb}
@@ -18,4 +19,4 @@ returns-in-3 c = rw c.in-3.is
 
 pub returns-in_default : goal.returns-in_default
 unfolding pending_of patch_of
-returns-in_default c = simp (ne_eqb _ _ c.in_default.in_default-own.rest.1, ne_eqb _ _ c.in_default.in_default-own.rest.0.1, ne_eqb _ _ c.in_default.in_default-own.rest.0.0.1)
+returns-in_default c = search (tests, rules)

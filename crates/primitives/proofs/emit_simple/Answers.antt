@@ -31,4 +31,4 @@ pub returns-in-23 : goal.returns-in-23
 returns-in-23 c = rw (chain4 c.requires.0 c.args.link c.args.facts (sym c.requires.1.is ∙ c.in-23.is) c.byte_at-n.ensures) c.emit_l4.ensures
 
 pub returns-in_default : goal.returns-in_default
-returns-in_default c = let q = c.in_default.in_default-own.rest in rw (chain6 c.requires.0 c.args.link c.args.facts c.requires.1 q.0.0.0.0.0.0.1 q.0.0.0.0.0.1 q.0.0.0.0.1 q.0.0.0.1 q.0.0.1 q.0.1 q.1 c.byte_at-n-in_default.ensures) c.emit_l4-in_default.ensures
+returns-in_default c = rw (chain6 c.requires.0 c.args.link c.args.facts c.requires.1 (omega arith) (omega arith) (omega arith) (omega arith) (omega arith) (omega arith) (omega arith) c.byte_at-n-in_default.ensures) c.emit_l4-in_default.ensures

@@ -1,3 +1,4 @@
+use Rattle.std.proofs.Common.{arith}
 use mathlib.Core.Path.{sym, ap, ◌∙◌}
 use Rattle.bpf.proofs.Bytes.{be_first}
 use Rattle.reader.proofs.Fields.{no_link}
@@ -18,7 +19,7 @@ pub returns-in-3 : goal.returns-in-3
 returns-in-3 c = header_marked c.args.tree.now c.if-tree-lt8.false (sym c.marked.ensures ∙ c.if-marked.true) (be_first 5 c.args.tree.now ∙ c.in-3.is)
 
 pub returns-in_default : goal.returns-in_default
-returns-in_default c = ap linked (sym (no_link _ c.in_default.in_default-own.rest.0.0.1 c.in_default.in_default-own.rest.0.1 c.in_default.in_default-own.rest.1)) ∙ header_marked c.args.tree.now c.if-tree-lt8.false (sym c.marked.ensures ∙ c.if-marked.true) (be_first 5 c.args.tree.now)
+returns-in_default c = ap linked (sym (no_link _ (omega arith) (omega arith) (omega arith))) ∙ header_marked c.args.tree.now c.if-tree-lt8.false (sym c.marked.ensures ∙ c.if-marked.true) (be_first 5 c.args.tree.now)
 
 pub returns-else-marked : goal.returns-else-marked
 returns-else-marked c = header_unmarked c.args.tree.now c.if-tree-lt8.false (sym c.marked.ensures ∙ c.if-marked.false)

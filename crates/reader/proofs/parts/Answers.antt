@@ -1,3 +1,4 @@
+use Rattle.std.proofs.Common.{tests, rules}
 use borrow.Author.Tests.{ne_eqb}
 use native.Mathlib.Omega.{arith}
 use Rattle.reader.specs.Checking.{parts_of}
@@ -17,4 +18,4 @@ returns-in-3 c = (rw c.in-3.is, omega arith)
 
 pub returns-in_default : goal.returns-in_default
 unfolding parts_of
-returns-in_default c = (simp (ne_eqb _ _ c.in_default.in_default-own.rest.1, ne_eqb _ _ c.in_default.in_default-own.rest.0.1, ne_eqb _ _ c.in_default.in_default-own.rest.0.0.1), omega arith)
+returns-in_default c = search (tests, rules)

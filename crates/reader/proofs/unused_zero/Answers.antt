@@ -1,3 +1,4 @@
+use Rattle.std.proofs.Common.{tests, rules}
 use Rattle.reader.proofs.Zeros.{zero_then, zero_not}
 use native.Mathlib.Omega.{arith}
 use mathlib.Core.Path.{ap, ◌∙◌}
@@ -39,4 +40,4 @@ returns-in-16 c = rw c.in-16.is
 
 pub returns-in_default : goal.returns-in_default
 unfolding unused
-returns-in_default c = simp (ne_eqb _ _ c.in_default.in_default-own.rest.1, ne_eqb _ _ c.in_default.in_default-own.rest.0.1, ne_eqb _ _ c.in_default.in_default-own.rest.0.0.1, ne_eqb _ _ c.in_default.in_default-own.rest.0.0.0.1, ne_eqb _ _ c.in_default.in_default-own.rest.0.0.0.0.1)
+returns-in_default c = search (tests, rules)
