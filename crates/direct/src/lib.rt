@@ -1,5 +1,6 @@
 // The direct reading of a tree: what it says of a frame.
 #![tactic(auto)]
+
 use error::Refusal;
 
 #[derive(Clone, Copy)]

@@ -1,5 +1,6 @@
 // A program's lines as a row of instructions, and the row as bytes in a lent buffer.
 #![tactic(auto)]
+
 ghost use Rattle.std.specs.Prelude.{◌≡◌, ◌++◌, map, ◌+◌, ◌*◌, ◌≤◌, ◌<◌, length, take, drop, get_or, replicate};
 ghost use Rattle.bpf.specs.Program.{insn, insn_bytes};
 ghost use Rattle.output.specs.Words as W;

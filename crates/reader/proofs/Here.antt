@@ -11,7 +11,7 @@ use Rattle.ast.specs.Tree.{Expr, Leaf, And, Or, Not, records}
 use Rattle.ast.specs.Record.{record_at, Node, AndNode, OrNode, NotNode, LeafNode, kinds, node_at}
 use Rattle.ast.specs.File.{count_of, nodes_at, trees_of}
 use Rattle.ast.proofs.Prefix.{prefixes, prefixes_of, trees_prefixes}
-use Rattle.ast.proofs.Walk.{node, parts, Stands, stands, stands_none, stands_first, stands_rest}
+use Rattle.ast.proofs.Walk.{node, parts, Stands, stands_none, stands_first, stands_rest}
 use Rattle.reader.specs.Reader.{place, forest, tree_of, end_of, condition_of, leaf_at, Here, LeafHere}
 use Rattle.reader.specs.Checking.{parts_of}
 use Rattle.reader.proofs.Nodes.{asks, node_asks, kind_by, node_is}

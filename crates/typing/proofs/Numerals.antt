@@ -1,5 +1,5 @@
 -- Words are read as numbers exactly where they are decimals within their limits, and as addresses where they are four of them.
-use Prim.Native.Nat.{ℕ, zero, suc, ◌+◌, ◌*◌, ◌-◌, ◌≤◌, ◌<◌}
+use Prim.Native.Nat.{ℕ, ◌+◌, ◌*◌, ◌-◌, ◌≤◌}
 use mathlib.Core.Path.{◌≡◌, refl, sym, ap, ap₂, ◌∙◌}
 use mathlib.Core.List.{List, [], ◌∷◌, ◌++◌, append_assoc, append-nil}
 use mathlib.Core.Bool.{Bool, true, false, cond, not, ◌&&◌, ◌||◌}
@@ -9,7 +9,7 @@ use native.Mathlib.Omega.{arith}
 use native.Mathlib.Nat.{zero-add}
 use lib.ListN.{length}
 use lib.Dec.{eqb, leb}
-use borrow.Author.Tests.{eqb-true, eqb-false, leb-true, eq-eqb, ne_eqb, le-leb}
+use borrow.Author.Tests.{eqb-true, eqb-false, leb-true, ne_eqb, le-leb}
 use Rattle.bpf.specs.Bytes.{be}
 use Rattle.typing.specs.Words.{Word, name, over, side, host, port, opening, closing, negate, join, address, number}
 use Rattle.typing.specs.Words.{Row, keywords, same, keyword, digit, digits, value, empty, decimal, onto, parts, before, octets, four, either, made, word_of}

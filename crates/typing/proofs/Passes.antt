@@ -2,7 +2,7 @@
 use Prim.Native.Nat.{ℕ, zero, suc, ◌+◌, ◌*◌, ◌/◌, ◌%◌, ◌≤◌}
 use mathlib.Core.Path.{◌≡◌, refl, sym, ap, ap₂, ◌∙◌}
 use mathlib.Core.List.{List, [], ◌∷◌, ◌++◌, append_assoc, append-nil}
-use mathlib.Core.Bool.{true, false, not, ◌&&◌, ◌||◌}
+use mathlib.Core.Bool.{false, not, ◌&&◌, ◌||◌}
 use mathlib.Core.Option.{none, some}
 use native.Mathlib.Omega.{arith}
 use native.Mathlib.Nat.{zero-add, add-zero, div-add-mod'}
@@ -18,7 +18,7 @@ use Rattle.ast.specs.File.{link_of, header, count_of, count, nodes_at, parse}
 use Rattle.ast.proofs.Prefix.{prefix}
 use Rattle.ast.proofs.Walk.{Stands, parse_of}
 use Rattle.direct.specs.declared.DirectResult.TheVariants.{Is}
-use Rattle.direct.specs.Reading.{kind, ipv4, reads_proto, reads_primitive, reads}
+use Rattle.direct.specs.Reading.{ipv4, reads_proto, reads_primitive, reads}
 use Rattle.direct.specs.Direct.{direct}
 use Rattle.typing.specs.Words.{tcp, udp, sctp, ip, ip6, arp, rarp, icmp, src, dst, Join, and, or}
 use Rattle.typing.specs.Phrase.{Term, named, bare, hosts, ports, Operand, term, negated, brackets, Phrase, one, two, Within}

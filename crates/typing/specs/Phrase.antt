@@ -7,7 +7,7 @@ use Rattle.ast.specs.declared.Dir.{Dir}
 use Rattle.ast.specs.declared.Dir.TheVariants.{SrcOrDst, Src, Dst}
 use Rattle.ast.specs.Tree.{Proto, Ip, Ip6, Arp, Rarp, Tcp, Udp, Icmp, Sctp}
 use Rattle.ast.specs.Tree.{Primitive, Protocol, Host4, Port}
-use Rattle.ast.specs.Tree.{Expr, Leaf, And, Or, Not, records}
+use Rattle.ast.specs.Tree.{Expr, Leaf, And, Or, Not}
 use Rattle.direct.specs.Reading.{network_start, kind, transport}
 use Rattle.typing.specs.Words.{Transport, tcp, udp, sctp, Name, ip, ip6, arp, rarp, icmp, Side, src, dst, Join, and, or}
 use Rattle.typing.specs.Words.{Word, name, over, side, host, port, opening, closing, negate, join, address, number}

@@ -1,5 +1,6 @@
 // The answer to a typed line.
 #![tactic(auto)]
+
 use error::Refusal;
 
 // The length of the line's tree file in bytes; or a refusal, and the byte of the line where it is met.

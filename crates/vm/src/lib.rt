@@ -1,5 +1,6 @@
 // The classic BPF machine's types: vm.rs.
 #![tactic(auto)]
+
 ghost use Rattle.std.specs.Prelude.{◌≡◌, ◌≤◌};
 ghost use Rattle.vm.specs.Machine.{number_of_verdict};
 

@@ -1,5 +1,3 @@
-use Rattle.output.proofs.bare_insn.Reads as reads
-use Rattle.output.proofs.bare_insn.Lts as lts
 use mathlib.Core.Path.{refl}
 use Rattle.output.specs.Rows.{bare}
 use Rattle.output.proofs.bare_insn.Goals as goal

@@ -1,12 +1,7 @@
-use Rattle.output.proofs.clear.Reads as reads
-use Rattle.output.proofs.clear.Lts as lts
-use borrow.Author.Fill.{fill_more}
-use lib.Seq.{drop-length}
-use native.Mathlib.Omega.{arith}
-use mathlib.Core.Path.{◌≡◌, refl, ◌∙◌}
+use mathlib.Core.Path.{◌≡◌}
 use Prim.Native.Nat.{◌≤◌, ◌-◌}
-use mathlib.Core.List.{append-nil, ◌++◌}
-use lib.ListN.{length, replicate, drop, length-set}
+use mathlib.Core.List.{◌++◌}
+use lib.ListN.{length, replicate, drop}
 use Rattle.output.proofs.clear.Given as goal
 
 abbrev pub invariant-loop-i : goal.invariant-loop-i

@@ -1,7 +1,4 @@
 use Rattle.std.proofs.Common.{tests, rules}
-use Rattle.output.proofs.pending_at.Reads as reads
-use Rattle.output.proofs.pending_at.Lts as lts
-use borrow.Author.Tests.{ne_eqb}
 use Rattle.output.specs.Rows.{pending_of, patch_of}
 use Rattle.output.proofs.pending_at.Goals as goal
 

@@ -1,10 +1,6 @@
-use Rattle.output.proofs.store.Reads as reads
-use Rattle.output.proofs.store.Lts as lts
 use native.Mathlib.Omega.{arith}
 use native.Mathlib.Numerals.{towards_suc}
-use lib.ListN.{length-set}
 use lib.Seq.{sets-eq}
-use mathlib.Core.Path.{refl}
 use mathlib.Core.List.{[], ◌∷◌}
 use Prim.Native.Nat.{◌/◌, ◌%◌}
 use Rattle.bpf.specs.Program.{insn_bytes}

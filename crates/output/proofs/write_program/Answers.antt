@@ -1,14 +1,8 @@
-use Rattle.output.proofs.write_program.Reads as reads
-use Rattle.output.proofs.write_program.Lts as lts
-use Rattle.output.proofs.next.Reads as next-reads
-use Rattle.output.proofs.write_row.Reads as write-row-reads
-use mathlib.Core.Path.{◌≡◌, refl, ◌∙◌}
-use mathlib.Core.List.{◌++◌}
-use Prim.Native.Nat.{ℕ, ◌≤◌, ◌-◌, ◌+◌, ◌*◌}
+use mathlib.Core.Path.{refl, ◌∙◌}
+use Prim.Native.Nat.{ℕ, ◌≤◌, ◌+◌}
 use native.Mathlib.Omega.{arith}
-use lib.ListN.{length, take, drop}
 use Rattle.output.specs.Words.{bytes_of}
-use Rattle.output.proofs.Parts.{part_length, program_next}
+use Rattle.output.proofs.Parts.{program_next}
 use Rattle.output.proofs.write_program.Goals as goal
 
 pub loop-i-init : goal.loop-i-init

@@ -1,5 +1,4 @@
-use Rattle.std.proofs.Common.{◌≡◌, get_or, replicate, sym, ap, ◌∙◌, arith}
-use Rattle.bpf.specs.declared.Insn.{Insn}
+use Rattle.std.proofs.Common.{◌≡◌, get_or, replicate, arith}
 use Rattle.output.specs.Rows.{no_insn}
 use Rattle.output.specs.Words.{insn_of}
 use Rattle.output.proofs.Parts.{written_none, written_next}
@@ -14,8 +13,7 @@ unfolding insn_of
 loop-i-preserved c =
     let i = c.loop-i.i in
     let ws = c.args.lines.now in
-    let x : get_or c.link.new.insns i no_insn ≡ insn_of (get_or ws i 0) = rw c.loop-i.invariant.2 (linked_at ws (replicate 64 no_insn) i c.loop-i-test.true) in
-    (
+    let x : get_or c.link.new.insns i no_insn ≡ insn_of (get_or ws i 0) = rw c.loop-i.invariant.2 (linked_at ws (replicate 64 no_insn) i c.loop-i-test.true) in (
       omega arith,
       rw (c.store.ensures, x, c.loop-i.invariant.1) (written_next ws c.args.program.now c.args.at c.requires.1 i c.loop-i-test.true),
       c.loop-i.invariant.2,

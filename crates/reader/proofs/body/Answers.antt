@@ -1,7 +1,5 @@
-use native.Mathlib.Omega.{arith}
 use mathlib.Core.Path.{sym, ◌∙◌}
-use borrow.Author.Tests.{not-true, not-false}
-use Rattle.reader.proofs.Bodies.{body_wrong, body_bad, body_trees, right_count, wrong_is, nodes_are}
+use Rattle.reader.proofs.Bodies.{body_wrong, body_bad, body_trees, wrong_is, nodes_are}
 use Rattle.reader.proofs.body.Goals as goal
 
 pub returns-then-wrong_count : goal.returns-then-wrong_count

@@ -1,7 +1,6 @@
 use mathlib.Core.Path.{refl, ◌∙◌}
 use Prim.Native.Nat.{◌+◌, ◌*◌}
 use native.Mathlib.Omega.{arith}
-use borrow.Author.Tests.{not-true, not-false}
 use Rattle.reader.proofs.Nodes.{be_kind}
 use Rattle.reader.proofs.Rows.{record_unfit, record_used, record_lacks}
 use Rattle.reader.proofs.good_record.Goals as goal

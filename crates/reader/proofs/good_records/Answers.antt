@@ -1,11 +1,5 @@
 use native.Mathlib.Omega.{arith}
-use mathlib.Core.Path.{ap, ◌∙◌}
-use Prim.Native.Nat.{◌-◌, ◌≤◌}
-use mathlib.Core.Path.{◌≡◌}
-use borrow.Author.Tests.{not-true, not-false}
-use Rattle.ast.specs.File.{nodes_at}
-use Rattle.reader.specs.Checking.{is_done}
-use Rattle.reader.specs.Reader.{place}
+use mathlib.Core.Path.{◌∙◌}
 use Rattle.reader.proofs.Forests.{turn_bad, turn_good, nodes_end}
 use Rattle.reader.proofs.good_records.Goals as goal
 

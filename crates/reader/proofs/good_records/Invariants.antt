@@ -1,12 +1,8 @@
-use native.Mathlib.Omega.{arith}
-use mathlib.Core.Path.{ap, ◌∙◌}
 use Prim.Native.Nat.{◌-◌, ◌≤◌}
 use mathlib.Core.Path.{◌≡◌}
-use borrow.Author.Tests.{not-true, not-false}
 use Rattle.ast.specs.File.{nodes_at}
 use Rattle.reader.specs.Checking.{is_done}
 use Rattle.reader.specs.Reader.{place}
-use Rattle.reader.proofs.Forests.{turn_bad, turn_good, nodes_end}
 use Rattle.reader.proofs.good_records.Given as goal
 
 abbrev pub invariant-loop-i : goal.invariant-loop-i

@@ -1,9 +1,7 @@
 use native.Mathlib.Omega.{arith}
-use Prim.Native.Nat.{◌+◌, ◌-◌, ◌≤◌}
+use Prim.Native.Nat.{◌-◌}
 use mathlib.Core.Path.{◌≡◌}
-use Rattle.error.specs.Answer.{done}
-use Rattle.reader.specs.Reader.{forest}
-use Rattle.reader.proofs.Forests.{sizes, one_start, one_end, one_lacks, one_turn}
+use Rattle.reader.proofs.Forests.{one_start, one_end, one_lacks, one_turn}
 use Rattle.reader.proofs.one_tree.Goals as goal
 
 pub loop-i-init : goal.loop-i-init

@@ -1,9 +1,8 @@
-use native.Mathlib.Omega.{arith}
-use Prim.Native.Nat.{◌+◌, ◌-◌, ◌≤◌}
+use Prim.Native.Nat.{◌+◌, ◌≤◌}
 use mathlib.Core.Path.{◌≡◌}
 use Rattle.error.specs.Answer.{done}
 use Rattle.reader.specs.Reader.{forest}
-use Rattle.reader.proofs.Forests.{sizes, one_start, one_end, one_lacks, one_turn}
+use Rattle.reader.proofs.Forests.{sizes}
 use Rattle.reader.proofs.one_tree.Given as goal
 
 abbrev pub invariant-loop-i : goal.invariant-loop-i

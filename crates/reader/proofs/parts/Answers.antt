@@ -1,5 +1,4 @@
 use Rattle.std.proofs.Common.{tests, rules}
-use borrow.Author.Tests.{ne_eqb}
 use native.Mathlib.Omega.{arith}
 use Rattle.reader.specs.Checking.{parts_of}
 use Rattle.reader.proofs.parts.Goals as goal

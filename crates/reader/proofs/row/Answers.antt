@@ -1,5 +1,4 @@
 use Rattle.std.proofs.Common.{tests, rules}
-use borrow.Author.Tests.{ne_eqb}
 use Rattle.reader.specs.Checking.{most_by}
 use Rattle.reader.proofs.row.Goals as goal
 

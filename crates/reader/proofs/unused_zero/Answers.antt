@@ -3,7 +3,6 @@ use Rattle.reader.proofs.Zeros.{zero_then, zero_not}
 use native.Mathlib.Omega.{arith}
 use mathlib.Core.Path.{ap, ◌∙◌}
 use Prim.Native.Nat.{◌+◌, ◌*◌}
-use borrow.Author.Tests.{ne_eqb}
 use Rattle.reader.specs.Checking.{unused}
 use Rattle.bpf.proofs.Parts.{be_bytes}
 use Rattle.bpf.specs.Bytes.{be}
