@@ -1,7 +1,7 @@
 -- How much the parts of a condition add at most.
 use Prim.Native.Nat.{ℕ, ◌≤◌}
 use mathlib.Core.Path.{subst}
-use mathlib.Core.List.{List, [], ◌∷◌, ◌++◌}
+use mathlib.Core.List.{List, []}
 use native.Mathlib.Omega.{arith}
 use lib.ListN.{length, length-append}
 use lib.Dec.{eqb}

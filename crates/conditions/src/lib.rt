@@ -1,5 +1,6 @@
 // The conditions but ports and ether addresses: codegen.rs `emit_ethertype` to `emit_ip6_multicast`.
 #![tactic(auto)]
+
 ghost use Rattle.std.specs.Prelude.{◌≡◌, [], ◌∷◌, ◌++◌, ◌+◌, ◌≤◌, ◌<◌};
 ghost use Rattle.codegen.specs.Block.{half, word};
 ghost use Rattle.ast.specs.Tree.{IpBroadcast, IpMulticast, Ip6Multicast};

@@ -1,8 +1,8 @@
 -- and, or, not: a block that was added, settled, and what follows it.
-use mathlib.Core.Path.{◌≡◌, refl, sym, ap, ◌∙◌}
-use mathlib.Core.List.{List, [], ◌∷◌, ◌++◌}
+use mathlib.Core.Path.{◌≡◌, refl, sym}
+use mathlib.Core.List.{List, ◌++◌}
 use mathlib.Core.Bool.{Bool, true, false, not}
-use Prim.Native.Nat.{ℕ, ◌+◌}
+use Prim.Native.Nat.{ℕ}
 use native.Mathlib.Omega.{arith}
 use lib.Dec.{eqb}
 use borrow.Author.Tests.{eqb-true, eqb-false}
@@ -15,7 +15,6 @@ use Rattle.emit.specs.declared.Patches.{Patches}
 use Rattle.emit.specs.declared.Emitted.{Emitted}
 use Rattle.emit.specs.declared.Emission.{Emission}
 use Rattle.emit.specs.declared.Emission.TheVariants.{Refused}
-use Rattle.emit.specs.Lines.{writes}
 use Rattle.emit.specs.Grown.{Grew, Reply, Ended}
 use Rattle.emit.proofs.Grow.{writes_none, writes_some}
 use Rattle.emit.proofs.Outcome.{Went, after, after_reply, ended_near, ended_far, ended_grew}

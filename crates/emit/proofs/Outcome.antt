@@ -1,20 +1,19 @@
 -- Answers against what the definition gives: refused, or made; and one part after another.
 use mathlib.Core.Path.{◌≡◌, refl, sym, ap, ◌∙◌, subst}
-use mathlib.Core.List.{List, [], ◌∷◌, ◌++◌}
+use mathlib.Core.List.{List, [], ◌++◌}
 use mathlib.Core.Bool.{Bool, true, false, not}
 use Prim.Native.Nat.{ℕ}
 use native.Mathlib.Omega.{arith}
 use Rattle.error.specs.declared.Refusal.{Refusal}
-use Rattle.error.specs.declared.Refusal.TheVariants.{FarJump}
 use Rattle.error.specs.Answer.{Out, refused, done, ◌>>=◌}
 use Rattle.codegen.specs.declared.Facts.{Facts}
-use Rattle.codegen.specs.Block.{Block, far, resolved}
+use Rattle.codegen.specs.Block.{Block, far}
 use Rattle.codegen.specs.Emit.{Code, code}
 use Rattle.emit.specs.declared.Patches.{Patches}
 use Rattle.emit.specs.declared.Emitted.{Emitted}
 use Rattle.emit.specs.declared.Emission.{Emission}
 use Rattle.emit.specs.declared.Emission.TheVariants.{Done, Refused}
-use Rattle.emit.specs.Grown.{Grew, Made, MadeFailure, Answers, Reply, ReplyFailure, Ended}
+use Rattle.emit.specs.Grown.{Grew, Made, Answers, Reply, Ended}
 use Rattle.emit.proofs.Grow.{none, then}
 
 -- ---- an answer that was a refusal, and one that was not

@@ -1,6 +1,6 @@
 -- What the functions of the generator leave in the lent slices: I the lines, Y the stack of pending successes, N that of pending failures.
 -- Lines are written as far as I reaches: who asks for the count alone lends none.
-use Rattle.std.specs.Prelude.{ℕ, ◌+◌, ◌≤◌, ◌<◌, ◌≡◌, List, [], ◌∷◌, ◌++◌, Bool, true, false, not, length, take}
+use Rattle.std.specs.Prelude.{ℕ, ◌+◌, ◌≤◌, ◌≡◌, List, ◌++◌, Bool, true, false, not, length, take}
 use Rattle.error.specs.Answer.{Out, refused, done}
 use Rattle.codegen.specs.Block.{Block, success, failure, far, otherwise}
 use Rattle.codegen.specs.Emit.{Code}

@@ -1,5 +1,5 @@
 -- Blocks as the code holds them: each line one number, and two stacks with the places of the lines whose jumps are pending.
-use Rattle.std.specs.Prelude.{ℕ, zero, suc, ◌+◌, ◌-◌, ◌*◌, ◌/◌, ◌%◌, ◌<◌, List, [], ◌∷◌, Bool, true, false, cond, get_or, set, eqb, ltb}
+use Rattle.std.specs.Prelude.{ℕ, ◌+◌, ◌-◌, ◌*◌, ◌/◌, ◌%◌, ◌<◌, List, [], ◌∷◌, cond, get_or, set, eqb, ltb}
 use Rattle.codegen.specs.Block.{byte, half, word, Op, ld_abs, ldh_ind, ldx_msh, ldx_imm, and_k, Test, jeq, jgt, jge, jset, Side, Exit, skip, leave, Slot, jt, jf, Line, op, test, ja, Block, same, distance, sets_x, op_insn, test_code}
 
 -- ---- lines

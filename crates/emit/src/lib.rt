@@ -1,6 +1,7 @@
 // Blocks in lent slices: codegen.rs `push`, `resolve`, `check_byte` and their like. Each line is one number in `insns`; `success` and
 // `failure` hold the places of the lines whose jumps are pending, the `Patches` of the source.
 #![tactic(auto)]
+
 ghost use Rattle.std.specs.Prelude.{◌≡◌, [], ◌∷◌, ◌++◌, ◌+◌, ◌*◌, ◌-◌, ◌^◌, ◌%◌, ◌≤◌, ◌<◌, length, get_or, set, eqb, cond};
 ghost use Rattle.std.proofs.Math.Seq.{slice};
 ghost use Rattle.codegen.specs.Block as B;

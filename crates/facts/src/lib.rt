@@ -1,5 +1,6 @@
 // Facts, guards and protocol sets: codegen.rs `L4Set`, `Facts`, `GuardSet`, `l4set_for`, and the table of the twelve protocols.
 #![tactic(auto)]
+
 ghost use Rattle.std.specs.Prelude.{◌≡◌, ℕ, ◌≤◌};
 ghost use Rattle.ast.specs.Record.{proto_of, port_proto_of};
 ghost use Rattle.codegen.specs.Facts as F;

@@ -14,9 +14,8 @@ use mathlib.Core.Option.{none, some}
 use Rattle.ast.specs.Tree.{Proto, Ip, Expr}
 use Rattle.ast.specs.Record.{protos, port_proto_of}
 use Rattle.ast.specs.File.{count_of}
-use Rattle.ast.proofs.Proper.{Word, Proper}
+use Rattle.ast.proofs.Proper.{Proper}
 use Rattle.codegen.specs.declared.L4Set.{L4Set}
-use Rattle.codegen.specs.declared.L4Set.TheVariants.{One, TcpOrUdp}
 use Rattle.codegen.specs.declared.Known.{Known}
 use Rattle.codegen.specs.declared.Known.TheVariants.{Unknown, Is}
 use Rattle.codegen.specs.declared.Ports.{Ports}
@@ -25,7 +24,7 @@ use Rattle.codegen.specs.declared.GuardSet.{GuardSet}
 use Rattle.codegen.specs.Protocols.{l4set_for}
 use Rattle.codegen.specs.Facts.{ready, both, or, both_ports, or_ports}
 use Rattle.codegen.specs.Guards.{required_guards, set_of, port_guards}
-use Rattle.codegen.proofs.Shape.{SmallKnown, SmallPorts, SmallGuards, guards_small}
+use Rattle.codegen.proofs.Shape.{SmallKnown, SmallPorts, guards_small}
 use Rattle.facts.specs.declared.SetResult.TheVariants as Set
 use Rattle.facts.specs.Sets.{set_result}
 use Rattle.reader.specs.Reader.{tree_of, end_of}

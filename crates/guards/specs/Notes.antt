@@ -1,6 +1,5 @@
 -- The notes of a tree's records: for each record the guards that its tree requires, and where it ends, as five numbers.
 use Rattle.std.specs.Prelude.{ℕ, ◌+◌, ◌*◌, ◌≤◌, ◌<◌, ◌≡◌, List, Bool, true, false, cond, eqb, length, get_or}
-use Rattle.codegen.specs.declared.L4Set.TheVariants.{One, TcpOrUdp}
 use Rattle.codegen.specs.declared.Known.{Known}
 use Rattle.codegen.specs.declared.Known.TheVariants.{Unknown, Is}
 use Rattle.codegen.specs.declared.Ports.{Ports}

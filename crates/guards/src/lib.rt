@@ -1,5 +1,6 @@
 // The guards that a tree requires: codegen.rs `required_guards`, `primitive_guards`, over the records of a tree file.
 #![tactic(auto)]
+
 ghost use Rattle.std.specs.Prelude.{◌≡◌, ◌+◌, ◌*◌, ◌≤◌, ◌<◌, length, get_or};
 ghost use Rattle.ast.specs.Record.{port_proto_of};
 ghost use Rattle.ast.specs.File.{count_of};

@@ -1,5 +1,6 @@
 // A net in sixteen numbers: the masks of its eight segments, and what they leave of its address.
 #![tactic(auto)]
+
 ghost use Rattle.std.specs.Prelude.{◌≡◌, ◌<◌};
 ghost use Rattle.codegen.specs.Emit as E;
 ghost use Rattle.codegen.specs.Nets6 as N;

@@ -1,5 +1,6 @@
 // The tree file: its numbers, and checks 1 to 4.
 #![tactic(auto)]
+
 ghost use Rattle.std.specs.Prelude.{◌≡◌, not, ◌&&◌, ◌||◌, ◌+◌, ◌*◌, ◌≤◌, ◌<◌, length, eqb, ltb};
 ghost use Rattle.bpf.specs.Bytes.{be, segments_at, bytes_at};
 ghost use Rattle.ast.specs.Record.{dir_of, record_at, node_at};

@@ -1,6 +1,4 @@
-use native.Mathlib.Omega.{arith}
-use Rattle.conditions.proofs.Sizes.{first_size}
-use Rattle.conditions.proofs.Sides.{loaded, last_absolute}
+use Rattle.conditions.proofs.Sides.{loaded}
 use Rattle.conditions.proofs.check_addr4.Goals as goal
 
 pub returns : goal.returns

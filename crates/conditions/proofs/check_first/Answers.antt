@@ -1,7 +1,5 @@
-use native.Mathlib.Omega.{arith}
 use mathlib.Core.Logic.{inl, inr}
 use Rattle.conditions.specs.Loads.{load}
-use Rattle.conditions.proofs.Sizes.{load_size}
 use Rattle.conditions.proofs.Sides.{first_none, first_both, first_either}
 use Rattle.conditions.proofs.check_first.Goals as goal
 

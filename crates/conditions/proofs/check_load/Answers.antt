@@ -1,6 +1,4 @@
-use native.Mathlib.Omega.{arith}
 use Rattle.emit.proofs.Grow.{then_failure}
-use Rattle.conditions.proofs.Sizes.{load_size}
 use Rattle.conditions.proofs.check_load.Goals as goal
 
 pub returns : goal.returns

@@ -1,4 +1,3 @@
-use native.Mathlib.Omega.{arith}
 use Rattle.emit.proofs.Grow.{then, put_failure}
 use Rattle.conditions.proofs.check_mac.Goals as goal
 

@@ -1,13 +1,8 @@
 use borrow.Author.Rules.{rules}
 use native.Mathlib.Omega.{arith}
-use mathlib.Core.Path.{◌≡◌, refl}
-use mathlib.Core.List.{List}
-use Prim.Native.Nat.{ℕ, ◌≤◌, ◌-◌, ◌+◌, ◌*◌}
-use lib.ListN.{length, drop}
-use Rattle.emit.specs.declared.Patches.{Patches}
-use Rattle.emit.specs.Grown.{Grew}
+use mathlib.Core.Path.{◌≡◌}
+use lib.ListN.{length}
 use Rattle.emit.proofs.Grow.{none, then, put_failure}
-use Rattle.codegen.specs.Nets6.{tests}
 use Rattle.conditions.proofs.Nets.{tests_more, tests_last, tests_end}
 use Rattle.conditions.proofs.check_net6.Goals as goal
 

@@ -1,13 +1,10 @@
-use native.Mathlib.Omega.{arith}
-use mathlib.Core.Path.{◌≡◌, refl}
+use mathlib.Core.Path.{◌≡◌}
 use mathlib.Core.List.{List}
 use Prim.Native.Nat.{ℕ, ◌≤◌, ◌-◌, ◌+◌, ◌*◌}
 use lib.ListN.{length, drop}
 use Rattle.emit.specs.declared.Patches.{Patches}
 use Rattle.emit.specs.Grown.{Grew}
-use Rattle.emit.proofs.Grow.{none, then, put_failure}
 use Rattle.codegen.specs.Nets6.{tests}
-use Rattle.conditions.proofs.Nets.{tests_more, tests_last, tests_end}
 use Rattle.conditions.proofs.check_net6.Given as goal
 
 abbrev pub invariant-loop-i : goal.invariant-loop-i

@@ -1,4 +1,4 @@
-use Rattle.conditions.proofs.Starts.{ethertype_known, ethertype_tested}
+use Rattle.conditions.proofs.Starts.{ethertype_known}
 use Rattle.conditions.proofs.emit_ethertype_at.Goals as goal
 
 pub returns-then-holds : goal.returns-then-holds

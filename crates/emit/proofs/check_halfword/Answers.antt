@@ -1,5 +1,4 @@
 use borrow.Author.Rules.{rules}
-use native.Mathlib.Omega.{arith}
 use Rattle.emit.specs.Lines.{op_of}
 use Rattle.emit.proofs.Grow.{then_failure}
 use Rattle.emit.proofs.check_halfword.Goals as goal

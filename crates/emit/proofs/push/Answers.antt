@@ -1,4 +1,3 @@
-use native.Mathlib.Omega.{arith}
 use mathlib.Core.Path.{refl}
 use Rattle.emit.specs.Lines.{op_of}
 use Rattle.emit.proofs.Grow.{one, put}

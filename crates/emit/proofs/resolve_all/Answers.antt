@@ -1,11 +1,8 @@
-use mathlib.Core.Path.{◌≡◌, refl, ◌∙◌, sym, subst}
+use mathlib.Core.Path.{refl, ◌∙◌, sym, subst}
 use mathlib.Core.Bool.{true, false}
-use Prim.Native.Nat.{◌≤◌, ◌<◌, ◌-◌, ◌+◌}
 use native.Mathlib.Omega.{arith}
-use lib.ListN.{length, get_or, length-set}
-use lib.Seq.{slice}
+use lib.ListN.{length-set}
 use Rattle.emit.specs.Grown.{Resolves}
-use Rattle.emit.specs.Lines.{Below, resolve}
 use Rattle.emit.proofs.Resolving.{below_step, resolve_far, resolve_step, resolve_end}
 use Rattle.emit.proofs.resolve_all.Goals as goal
 

@@ -3,7 +3,7 @@ use mathlib.Core.Path.{refl}
 use Rattle.emit.specs.Lines.{test_of, slot_of}
 use Rattle.codegen.specs.Block.{failure}
 use Rattle.emit.proofs.Grow.{one_failure, put_failure, plus_none}
-use Rattle.emit.proofs.Slots.{field_small, packs_test}
+use Rattle.emit.proofs.Slots.{packs_test}
 use Rattle.emit.proofs.test_failure.Goals as goal
 
 pub returns : goal.returns

@@ -1,6 +1,6 @@
 use mathlib.Core.Path.{refl}
 use Rattle.emit.proofs.Grow.{then}
-use Rattle.emit.proofs.Outcome.{answer, turned_down}
+use Rattle.emit.proofs.Outcome.{answer}
 use Rattle.ether.proofs.emit_sender.Goals as goal
 
 pub returns-in-Src : goal.returns-in-Src

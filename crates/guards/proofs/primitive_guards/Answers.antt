@@ -1,6 +1,5 @@
 use Rattle.reader.proofs.ByKind.{kind10, kind11, kind12, kind13, kind14, kind15, kind16, kind17, kind18, kind19, kind20, kind21, kind22, kind23, kind24, protocol_known, protocol_named}
 use native.Mathlib.Omega.{arith}
-use mathlib.Core.Path.{refl, sym, ◌∙◌, ap}
 use Rattle.reader.proofs.Firsts.{kind_is, kind_not}
 use Rattle.codegen.specs.Guards.{primitive_guards}
 use Prim.Native.Nat.{◌+◌}

@@ -1,10 +1,7 @@
 use native.Mathlib.Omega.{arith}
-use Prim.Native.Nat.{◌+◌, ◌-◌, ◌≤◌}
-use mathlib.Core.Path.{◌≡◌, refl}
-use lib.ListN.{length}
+use Prim.Native.Nat.{◌+◌, ◌-◌}
+use mathlib.Core.Path.{◌≡◌}
 use Rattle.reader.proofs.Here.{here_each}
-use Rattle.guards.specs.Notes.{Noted}
-use Rattle.guards.proofs.Noting.{noted_none}
 use Rattle.guards.proofs.required_guards.Goals as goal
 
 pub note_record-requires : goal.note_record-requires

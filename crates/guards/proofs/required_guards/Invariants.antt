@@ -1,10 +1,7 @@
-use native.Mathlib.Omega.{arith}
-use Prim.Native.Nat.{◌+◌, ◌-◌, ◌≤◌}
-use mathlib.Core.Path.{◌≡◌, refl}
+use Prim.Native.Nat.{◌≤◌}
+use mathlib.Core.Path.{◌≡◌}
 use lib.ListN.{length}
-use Rattle.reader.proofs.Here.{here_each}
 use Rattle.guards.specs.Notes.{Noted}
-use Rattle.guards.proofs.Noting.{noted_none}
 use Rattle.guards.proofs.required_guards.Given as goal
 
 abbrev pub invariant-loop-i : goal.invariant-loop-i
