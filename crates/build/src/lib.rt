@@ -1,5 +1,6 @@
 // A tree file's program in a lent buffer: the build, and its two halves, the question and the load.
 #![tactic(auto)]
+
 ghost use Rattle.std.specs.Prelude.{◌≡◌, ◌≤◌, length};
 ghost use Rattle.generate.specs.Promises.{Generates};
 ghost use Rattle.build.specs.Build.{program, build, question, load};

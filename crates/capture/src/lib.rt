@@ -1,5 +1,6 @@
 // Classic pcap files: the file header, the frames as parts of the file, and how many of them a program accepts.
 #![tactic(auto)]
+
 ghost use Rattle.std.specs.Prelude.{◌≡◌, true, ◌+◌, ◌≤◌, ◌<◌, length, drop};
 ghost use Rattle.capture.specs.Capture.{number_at, is_mark, order_of, field_of, opened, front, piece, part, frame_at};
 ghost use Rattle.capture.specs.Counting as C;

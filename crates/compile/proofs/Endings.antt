@@ -1,8 +1,8 @@
 -- The open exits of a program's block go to the two returns.
-use Prim.Native.Nat.{ℕ, suc, ◌+◌, ◌*◌, ◌≤◌, ◌<◌}
+use Prim.Native.Nat.{ℕ, suc, ◌+◌, ◌≤◌, ◌<◌}
 use mathlib.Core.Path.{◌≡◌, refl, sym, ap, ap₂, ◌∙◌, subst}
 use mathlib.Core.List.{List, [], ◌∷◌, ◌++◌, map, append_assoc}
-use mathlib.Core.Bool.{Bool, true, false, not, cond, ◌||◌}
+use mathlib.Core.Bool.{Bool, true, false, not, ◌||◌}
 use native.Mathlib.Omega.{arith}
 use native.Mathlib.Numerals.{add-one}
 use lib.ListN.{length, take, drop, set, length-append, length-set}
@@ -10,15 +10,15 @@ use lib.Dec.{ltb}
 use borrow.Author.Tests.{ltb-true}
 use Rattle.bpf.specs.declared.Insn.{Insn}
 use Rattle.bpf.specs.Bytes.{le}
-use lib.Seq.{slice, take-suc-set, take_at, set_at}
+use lib.Seq.{slice, take-suc-set, take_at}
 use Rattle.error.specs.declared.Refusal.TheVariants.{FarJump}
 use Rattle.error.specs.Answer.{done, ◌>>=◌}
-use Rattle.bpf.specs.Program.{insn, insn_bytes, program_bytes}
+use Rattle.bpf.specs.Program.{insn_bytes, program_bytes}
 use Rattle.codegen.specs.Block.{Side, success, failure, Exit, skip, leave, Line, op, test, ja, Block, swap, swap_line, settle, distance, far, far_line, resolved, assemble}
 use Rattle.codegen.specs.Compile.{finished, returns}
 use Rattle.codegen.proofs.Semantics.{length_settle}
 use Rattle.emit.specs.declared.Patches.{Patches}
-use Rattle.emit.specs.Lines.{packs, resolve, Below, places}
+use Rattle.emit.specs.Lines.{packs, resolve, places}
 use Rattle.emit.specs.Grown.{Grew, Resolves, Ended}
 use Rattle.emit.proofs.Grow.{packs_length}
 use Rattle.emit.proofs.Settling.{law, whole, far_law, resolves_near, resolves_long, resolves_lines, settled_success, failure_segment}

@@ -1,6 +1,6 @@
 -- A walk's parts, and how much each adds.
 use Prim.Native.Nat.{ℕ, ◌+◌, ◌≤◌, ◌<◌}
-use mathlib.Core.Path.{◌≡◌, refl, sym, ap, ◌∙◌, subst}
+use mathlib.Core.Path.{◌≡◌, refl, ap, ◌∙◌, subst}
 use mathlib.Core.List.{List, [], ◌∷◌, ◌++◌}
 use mathlib.Core.Bool.{Bool, true, false, not}
 use native.Mathlib.Omega.{arith}
@@ -15,7 +15,6 @@ use Rattle.ast.specs.Tree.{Expr, And, Or, Not}
 use Rattle.ast.specs.File.{count_of}
 use Rattle.ast.proofs.Proper.{Proper}
 use Rattle.codegen.specs.declared.Facts.{Facts}
-use Rattle.codegen.specs.declared.GuardSet.{GuardSet}
 use Rattle.codegen.specs.Guards.{required_guards}
 use Rattle.codegen.specs.Facts.{restored, meet}
 use Rattle.codegen.specs.Block.{success, failure, leave, ja, Block, otherwise, resolved}

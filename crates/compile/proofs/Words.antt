@@ -1,17 +1,14 @@
 -- A line's number and its instruction have the same bytes.
-use Prim.Native.Nat.{ℕ, zero, suc, ◌+◌, ◌*◌, ◌/◌, ◌%◌, ◌≤◌, ◌<◌}
+use Prim.Native.Nat.{ℕ, ◌/◌, ◌%◌, ◌≤◌, ◌<◌}
 use mathlib.Core.Path.{◌≡◌, refl, ap, ap₂}
-use mathlib.Core.List.{List, [], ◌∷◌, ◌++◌, map}
-use mathlib.Core.Bool.{Bool, true, false, cond, ◌||◌}
+use mathlib.Core.List.{[], ◌∷◌, ◌++◌, map}
+use mathlib.Core.Bool.{false}
 use native.Mathlib.Omega.{arith}
-use lib.ListN.{length}
-use lib.Dec.{eqb, ltb}
 use borrow.Author.Tests.{ltb-false}
 use Rattle.error.proofs.Either.{neither}
-use Rattle.bpf.specs.declared.Insn.{Insn}
 use Rattle.bpf.specs.Bytes.{le}
 use Rattle.bpf.specs.Program.{insn, insn_bytes, program_bytes}
-use Rattle.codegen.specs.Block.{byte, half, word, Op, ld_abs, ldh_ind, ldx_msh, ldx_imm, and_k, Test, jeq, jgt, jge, jset, Exit, skip, leave, Slot, jt, jf, Line, op, test, ja, Block, distance, far, far_line, op_insn, test_code, slot_insn, assemble}
+use Rattle.codegen.specs.Block.{byte, half, word, ld_abs, ldh_ind, ldx_msh, ldx_imm, and_k, Test, jeq, jgt, jge, jset, Slot, jt, jf, Line, op, test, ja, Block, distance, far, far_line, test_code, slot_insn, assemble}
 use Rattle.emit.specs.Lines.{line_word, field_of, packed, packs}
 use Rattle.output.specs.Words.{code_part, distance_part, field_part, k_part, insn_of, bytes_of}
 

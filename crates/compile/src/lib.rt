@@ -1,5 +1,6 @@
 // A tree's program: codegen.rs `emit_expr` and `compile`, over the records of a tree file.
 #![tactic(auto)]
+
 ghost use Rattle.std.specs.Prelude.{◌+◌};
 ghost use Rattle.ast.specs.Tree.{And, Or};
 ghost use Rattle.codegen.specs.Emit as E;

@@ -22,7 +22,7 @@ use Rattle.build.specs.Build.{build}
 use Rattle.build.proofs.Demands.{defined, kept, demands}
 use Rattle.capture.specs.declared.Order.{Order}
 use Rattle.capture.specs.declared.CountResult.{CountResult}
-use Rattle.capture.specs.declared.CountResult.TheVariants.{Count, Refused}
+use Rattle.capture.specs.declared.CountResult.TheVariants.{Refused}
 use Rattle.capture.specs.Capture.{opened, frames_of}
 use Rattle.capture.specs.Counting.{none, tally_of, ended, over, counted, frames_in}
 use Rattle.capture.proofs.Coded.{opened_long}

@@ -1,5 +1,5 @@
 -- What T-01 promises of a count holds of every tree file, buffer and capture.
-use Prim.Native.Nat.{ℕ, ◌+◌, ◌-◌, ◌≤◌, ◌<◌}
+use Prim.Native.Nat.{ℕ, ◌+◌, ◌≤◌, ◌<◌}
 use mathlib.Core.Path.{◌≡◌, refl, sym, ap, ◌∙◌}
 use mathlib.Core.List.{List, [], ◌∷◌}
 use mathlib.Core.Bool.{Bool, true, false, ◌&&◌}
@@ -22,7 +22,6 @@ use Rattle.ast.specs.File.{header}
 use Rattle.direct.specs.declared.DirectResult.{DirectResult}
 use Rattle.direct.specs.declared.DirectResult.TheVariants as D
 use Rattle.direct.specs.Reading.{network_start}
-use Rattle.build.specs.Demands as B
 use Rattle.build.specs.Demands.{Answers, program_of, Frame, HasVerdict}
 use Rattle.build.proofs.Demands as Base
 use Rattle.build.proofs.Demands.{demands}
@@ -35,7 +34,7 @@ use Rattle.capture.proofs.Headers.{marked_order, unmarked, opened_unmarked, open
 use Rattle.capture.proofs.Whole.{reads}
 use Rattle.capture.proofs.Turning.{in_turn}
 use Rattle.capture.proofs.Untested.{untested}
-use Rattle.count.specs.Count.{linked, count}
+use Rattle.count.specs.Count.{count}
 use Rattle.count.specs.Counts.{Calls, Kept, keeps, is_true, holds, reaches, Every, tallied, Counted, Linked, Counts}
 use Rattle.count.proofs.Answers.{count-own, count-linked, count-buffer}
 

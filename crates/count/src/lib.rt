@@ -1,5 +1,6 @@
 // The frames of a capture that a tree file's program accepts.
 #![tactic(auto)]
+
 ghost use Rattle.std.specs.Prelude.{◌≡◌, length};
 ghost use Rattle.capture.specs.declared.CountResult.TheVariants.{Refused};
 ghost use Rattle.capture.specs.Counting.{none};

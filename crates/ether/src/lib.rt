@@ -1,5 +1,6 @@
 // Ether addresses: codegen.rs `emit_ether_host` and `emit_ether_multicast`, and those of cooked captures.
 #![tactic(auto)]
+
 ghost use Rattle.std.specs.Prelude.{◌≡◌};
 ghost use Rattle.ast.specs.Tree.{EtherMulticast};
 ghost use Rattle.codegen.specs.Emit as E;

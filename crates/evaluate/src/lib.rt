@@ -1,5 +1,6 @@
 // The direct reading of a tree file on a frame. Every place, number and mask here is this file's own.
 #![tactic(auto)]
+
 ghost use Rattle.std.specs.Prelude.{◌≡◌, ◌+◌, ◌-◌, ◌%◌, ◌≤◌, ◌<◌, length, eqb};
 ghost use Rattle.bpf.specs.Bytes.{be, bytes_at};
 ghost use Rattle.ast.specs.Record.{proto_of};

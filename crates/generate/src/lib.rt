@@ -1,5 +1,6 @@
 // The program of a tree whose file passed checks 1 to 4: counted or refused whatever is lent, and written where there is room for it.
 #![tactic(auto)]
+
 ghost use Rattle.std.specs.Prelude.{◌≡◌, ◌≤◌, length};
 ghost use Rattle.ast.specs.File.{count_of};
 ghost use Rattle.codegen.specs.Compile as C;

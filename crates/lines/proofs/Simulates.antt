@@ -10,7 +10,7 @@ use lib.ListN.{length, length-append, set}
 use lib.Seq.{sets}
 use lib.Dec.{eqb-suc-zero}
 use Rattle.typing.specs.Words.{Transport, tcp, udp, sctp, Side, Join, Word, name, over, side, host, port, opening, closing, negate, join, address, number, Placed, known, strange}
-use Rattle.typing.specs.Phrase.{Term, named, bare, hosts, ports, Operand, term, negated, brackets, Phrase, one, operand_depth, depth}
+use Rattle.typing.specs.Phrase.{Term, named, bare, hosts, ports, Operand, term, negated, brackets, Phrase, operand_depth, depth}
 use Rattle.typing.specs.Phrase.{dir_byte, transport_byte, maybe_byte, join_byte}
 use Rattle.typing.specs.Finds.{Found, phrase, unknown, unfinished}
 use Rattle.typing.specs.Parse.{Level, fresh, after, notted, nots, fill, State, want, lone, sided, hosted, ported, full, close, sided_host, step, ended, final, ends, scan}

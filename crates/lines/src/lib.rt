@@ -1,5 +1,6 @@
 // The words of a typed line, read from the left into items: each is a record with the brackets that are open at its place.
 #![tactic(auto)]
+
 ghost use Rattle.std.specs.Prelude.{◌≡◌, ◌+◌, ◌-◌, ◌^◌, ◌<◌, max, length, set};
 ghost use Rattle.typing.specs.Words.{line_words};
 ghost use Rattle.lines.specs.Reads as R;

@@ -1,5 +1,6 @@
 // The classic BPF machine: vm.rs, over the bytes of a program and of a frame.
 #![tactic(auto)]
+
 ghost use Rattle.std.specs.Prelude.{◌≡◌, ℕ, ◌+◌, ◌*◌, ◌/◌, ◌%◌, ◌^◌, ◌<◌, ◌≤◌, not, ◌||◌, length, replicate, if◌then◌else◌, ◌==◌, nat_eq, nat_lt, slice_index};
 ghost use Rattle.bpf.specs.Bytes.{be, le_at};
 ghost use Rattle.bpf.specs.Program.{insn};

@@ -1,6 +1,7 @@
 // The port prologue, ports and port ranges, and the guards hoisted in front of an or: codegen.rs `emit_port_prereqs_set`, `emit_port`,
 // `emit_portrange`, `emit_or_hoist`.
 #![tactic(auto)]
+
 ghost use Rattle.std.specs.Prelude.{◌≡◌, [], ◌∷◌, ◌++◌, cond, ◌+◌, ◌≤◌, ◌<◌, length};
 ghost use Rattle.codegen.specs.declared.Known.TheVariants.{Unknown};
 ghost use Rattle.codegen.specs.Facts as F;

@@ -1,5 +1,6 @@
 // The condition of a record: codegen.rs `emit_primitive`.
 #![tactic(auto)]
+
 ghost use Rattle.std.specs.Prelude.{◌≡◌};
 ghost use Rattle.codegen.specs.Emit as E;
 ghost use Rattle.emit.specs.Grown.{Room, Space, Reply, ReplyFailure};

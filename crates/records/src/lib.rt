@@ -1,5 +1,6 @@
 // The items of a typed line put into prefix order and written as a tree file's records.
 #![tactic(auto)]
+
 ghost use Rattle.std.specs.Prelude.{◌≡◌, cond, [], ◌∷◌, ◌++◌, ◌+◌, ◌*◌, ◌≤◌, ◌<◌, length, take, drop, replicate, eqb};
 ghost use Rattle.records.specs.Order as O;
 

@@ -10,7 +10,7 @@ use Rattle.typing.specs.Phrase.{Operand, term, negated, brackets, Phrase, one, t
 use Rattle.typing.specs.Parse.{start, scan}
 use Rattle.lines.specs.Reads.{item, begin, scans}
 use Rattle.lines.specs.Items.{operand_items, phrase_items}
-use Rattle.records.specs.Order.{order, arranged, phrase_prefix}
+use Rattle.records.specs.Order.{arranged, phrase_prefix}
 use Rattle.lines.proofs.Simulates.{outer_items, outer_deep, level_items, level_deep, not_items, written, Follows, simulate}
 use Rattle.records.proofs.Ordered.{ordered}
 

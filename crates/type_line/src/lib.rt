@@ -1,5 +1,6 @@
 // A typed line as a tree file.
 #![tactic(auto)]
+
 ghost use Rattle.std.specs.Prelude.{◌≡◌, length};
 ghost use Rattle.typing.specs.Typed.{typed};
 ghost use Rattle.type_line.specs.Filed.{filed};

@@ -1,5 +1,6 @@
 // The words of a typed line, each by its bytes.
 #![tactic(auto)]
+
 ghost use Rattle.std.specs.Prelude.{◌≡◌, ◌+◌, ◌≤◌, ◌<◌, length, drop};
 ghost use Rattle.typing.specs.Words as W;
 ghost use Rattle.words.specs.Tokens.{coded, amount, key_of, by_key, counted, leading, once, twice, Takes, numeral_of};

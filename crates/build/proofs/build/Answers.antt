@@ -1,6 +1,5 @@
 use native.Mathlib.Omega.{arith}
 use lib.ListN.{length}
-use Rattle.generate.proofs.Generating.{few}
 use Rattle.build.proofs.Building.{build_turned, build_made}
 use Rattle.build.proofs.build.Goals as goal
 

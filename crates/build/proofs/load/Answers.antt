@@ -1,7 +1,6 @@
 use native.Mathlib.Omega.{arith}
 use mathlib.Core.Path.{◌≡◌}
 use lib.ListN.{length}
-use Rattle.generate.proofs.Generating.{few}
 use Rattle.build.proofs.Building.{load_turned, load_made, load_moved}
 use Rattle.build.proofs.load.Goals as goal
 

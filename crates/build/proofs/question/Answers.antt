@@ -1,5 +1,3 @@
-use native.Mathlib.Omega.{arith}
-use Rattle.generate.proofs.Generating.{few}
 use Rattle.build.proofs.Building.{question_turned, question_made}
 use Rattle.build.proofs.question.Goals as goal
 

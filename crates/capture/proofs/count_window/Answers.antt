@@ -1,12 +1,10 @@
 use Rattle.capture.specs.Counting.{keeps}
 use Rattle.capture.specs.Capture.{piece, part}
 use Rattle.capture.specs.declared.Front.TheVariants.{Past, Over}
-use Rattle.capture.proofs.Passing.{Passed, passed_none, passed_next, passed_all, whole_at, frame_few}
-use mathlib.Core.Logic.{⊎_elim}
+use Rattle.capture.proofs.Passing.{passed_next, passed_all, whole_at, frame_few}
 use mathlib.Core.Path.{◌≡◌, sym, ◌∙◌}
-use Prim.Native.Nat.{◌+◌, ◌-◌}
+use Prim.Native.Nat.{◌+◌}
 use native.Mathlib.Omega.{arith}
-use lib.ListN.{length}
 use Rattle.capture.proofs.count_window.Goals as goal
 use Rattle.capture.proofs.count_window.Goals.{then-keeps, else-keeps}
 
@@ -33,9 +31,10 @@ loop-n-preserved c =
     let f = whole_at c.args.order c.args.bytes.now c.loop-n.at c.in-Whole.n e in
     let b : c.keeps.result ≡ keeps c.args.program.now (part c.args.bytes.now (piece (c.loop-n.at + 16) c.in-Whole.n)) = c.keeps.ensures ∙ rw (c.frame.ensures, f.captured) in
     passed_next c.loop-n.invariant c.in-Whole.n _ e
-        (elim c.if-keeps.branch [
-          then-keeps w ↦ rw (← b, w.if-keeps.true) w.kept-is
-        | else-keeps w ↦ rw (← b, w.if-keeps.false) (omega (arith, w.kept-is)) ])
+    (elim c.if-keeps.branch [
+      | then-keeps w ↦ rw (← b, w.if-keeps.true) w.kept-is
+      | else-keeps w ↦ rw (← b, w.if-keeps.false) (omega (arith, w.kept-is))
+    ])
 
 pub returns-in-Past : goal.returns-in-Past
 returns-in-Past c = c.reached.ensures ∙ passed_all c.loop-n.invariant Past (sym c.front_at.ensures ∙ c.in-Past.is) tt

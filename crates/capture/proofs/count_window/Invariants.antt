@@ -1,11 +1,5 @@
-use Rattle.capture.specs.Counting.{keeps}
-use Rattle.capture.specs.Capture.{piece, part}
-use Rattle.capture.specs.declared.Front.TheVariants.{Past, Over}
-use Rattle.capture.proofs.Passing.{Passed, passed_none, passed_next, passed_all, whole_at, frame_few}
-use mathlib.Core.Logic.{⊎_elim}
-use mathlib.Core.Path.{◌≡◌, sym, ◌∙◌}
-use Prim.Native.Nat.{◌+◌, ◌-◌}
-use native.Mathlib.Omega.{arith}
+use Rattle.capture.proofs.Passing.{Passed}
+use Prim.Native.Nat.{◌-◌}
 use lib.ListN.{length}
 use Rattle.capture.proofs.count_window.Given as goal
 

@@ -1,26 +1,18 @@
-use borrow.Author.Rules.{rules}
 use native.Mathlib.Omega.{arith}
-use Prim.Native.Nat.{◌-◌, ◌+◌, ◌*◌}
-use mathlib.Core.Path.{◌≡◌, refl, sym, ap, ◌∙◌}
-use lib.Dec.{eqb}
-use mathlib.Core.Bool.{not}
-use Rattle.ast.specs.File.{count_of}
-use Rattle.ast.specs.Tree.{And, Or, Not, Leaf}
-use Rattle.error.specs.Answer.{done, ◌>>=◌}
-use Rattle.codegen.specs.Facts.{meet}
+use Prim.Native.Nat.{◌+◌}
+use mathlib.Core.Path.{◌≡◌, refl, ap, ◌∙◌}
+use Rattle.ast.specs.Tree.{Or}
 use Rattle.codegen.specs.Block.{success, settle}
-use Rattle.codegen.specs.Emit.{code, emit}
-use Rattle.codegen.specs.Guards.{required_guards}
+use Rattle.codegen.specs.Emit.{emit}
 use Rattle.codegen.proofs.Shape.{weight}
 use Rattle.emit.proofs.Settling.{success_below, failure_below, settled_success, swapped}
-use Rattle.emit.proofs.Outcome.{reply_done, reply_refused, after, answer, ended_grew}
+use Rattle.emit.proofs.Outcome.{reply_done, reply_refused, after, ended_grew}
 use Rattle.emit.proofs.Joins.{settled_then, settled_refused}
 use Rattle.reader.specs.Reader.{tree_of, end_of}
 use Rattle.reader.proofs.Here.{here_and, here_or, here_not, here_leaf}
 use Rattle.reader.proofs.Firsts.{kind_is, kind_not}
 use Rattle.guards.proofs.Noting.{note_same, readable}
 use Rattle.compile.proofs.Walked.{many, and_left, and_right, or_left, or_right, not_part, tree_sized, hoist_sized, tree_length, other_sized, arms_done, arms_far, or_done, or_refused, not_done, not_far}
-use Prim.Native.Nat.{ℕ, ◌<◌}
 use Rattle.compile.proofs.+emission.Goals as goal
 
 pub emit_and-resolve_all-requires : goal.emit_and-resolve_all-requires

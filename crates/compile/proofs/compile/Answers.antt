@@ -1,5 +1,5 @@
 use native.Mathlib.Omega.{arith}
-use mathlib.Core.Path.{◌≡◌, refl, sym, ap, ◌∙◌}
+use mathlib.Core.Path.{refl}
 use Rattle.reader.specs.Reader.{tree_of}
 use Rattle.codegen.specs.Compile as D
 use Rattle.emit.proofs.Settling.{success_below, failure_below}

@@ -1,10 +1,8 @@
 use native.Mathlib.Omega.{arith}
-use mathlib.Core.Path.{◌≡◌, refl, sym, ◌∙◌}
-use lib.ListN.{length-set}
 use Rattle.emit.proofs.Resolving.{below_more}
 use Rattle.codegen.specs.Compile.{finished}
 use Prim.Native.Nat.{◌+◌}
-use lib.ListN.{length, drop}
+use lib.ListN.{drop}
 use lib.Seq.{slice}
 use Rattle.emit.proofs.Outcome.{far_is, far_not}
 use Rattle.compile.proofs.Endings.{first_far, second_near, second_lines, second_length, done_program, far_program}

@@ -1,10 +1,9 @@
 use borrow.Author.Rules.{rules}
 use mathlib.Core.Path.{◌≡◌, sym, ◌∙◌}
 use native.Mathlib.Omega.{arith}
-use Prim.Native.Nat.{◌+◌, ◌-◌, ◌≤◌}
-use lib.ListN.{length, drop}
+use Prim.Native.Nat.{◌+◌}
+use lib.ListN.{length}
 use Rattle.evaluate.proofs.Segments.{byte_agrees, byte_differs, bytes_end}
-use Rattle.direct.specs.Reading.{bytes_are}
 use Rattle.evaluate.proofs.bytes_are.Goals as goal
 
 pub returns-then-byte-address : goal.returns-then-byte-address

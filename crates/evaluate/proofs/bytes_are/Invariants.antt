@@ -1,8 +1,6 @@
-use mathlib.Core.Path.{◌≡◌, sym, ◌∙◌}
-use native.Mathlib.Omega.{arith}
+use mathlib.Core.Path.{◌≡◌}
 use Prim.Native.Nat.{◌+◌, ◌-◌, ◌≤◌}
-use lib.ListN.{length, drop}
-use Rattle.evaluate.proofs.Segments.{byte_agrees, byte_differs, bytes_end}
+use lib.ListN.{drop}
 use Rattle.direct.specs.Reading.{bytes_are}
 use Rattle.evaluate.proofs.bytes_are.Given as goal
 

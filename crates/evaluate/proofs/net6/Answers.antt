@@ -1,7 +1,6 @@
 use Rattle.evaluate.proofs.Joined.{held}
 use mathlib.Core.Path.{sym, ◌∙◌}
 use Rattle.direct.specs.Reading.{reads_primitive}
-use borrow.Author.Tests.{not-true, not-false}
 use Rattle.evaluate.proofs.net6.Goals as goal
 
 pub returns-then-not-is_kind : goal.returns-then-not-is_kind

@@ -1,7 +1,6 @@
 use Rattle.evaluate.proofs.Joined.{held, failed}
 use mathlib.Core.Path.{refl}
-use borrow.Author.Tests.{not-true, not-false}
-use borrow.Author.Tests.{eq-eqb, ne_eqb}
+use borrow.Author.Tests.{eq-eqb}
 use Rattle.evaluate.proofs.port4.Goals as goal
 
 pub returns-then-not-in_set : goal.returns-then-not-in_set

@@ -1,5 +1,4 @@
 use Rattle.evaluate.proofs.Joined.{held, failed}
-use borrow.Author.Tests.{not-true, not-false}
 use Rattle.evaluate.proofs.port6.Goals as goal
 
 pub returns-then-not-in_set : goal.returns-then-not-in_set

@@ -1,10 +1,8 @@
 use borrow.Author.Rules.{rules}
-use mathlib.Core.Path.{◌≡◌, refl, sym, ◌∙◌}
+use mathlib.Core.Path.{◌≡◌, sym, ◌∙◌}
 use native.Mathlib.Omega.{arith}
-use Prim.Native.Nat.{◌+◌, ◌*◌, ◌-◌, ◌≤◌}
-use lib.ListN.{length, drop}
+use lib.ListN.{length}
 use Rattle.evaluate.proofs.Segments.{segment_agrees, segment_differs, segments_end}
-use Rattle.direct.specs.Reading.{segments_agree}
 use Rattle.evaluate.proofs.segments_agree.Goals as goal
 
 pub returns-then-half-free : goal.returns-then-half-free

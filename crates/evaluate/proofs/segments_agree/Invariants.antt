@@ -1,8 +1,6 @@
-use mathlib.Core.Path.{◌≡◌, refl, sym, ◌∙◌}
-use native.Mathlib.Omega.{arith}
+use mathlib.Core.Path.{◌≡◌}
 use Prim.Native.Nat.{◌+◌, ◌*◌, ◌-◌, ◌≤◌}
-use lib.ListN.{length, drop}
-use Rattle.evaluate.proofs.Segments.{segment_agrees, segment_differs, segments_end}
+use lib.ListN.{drop}
 use Rattle.direct.specs.Reading.{segments_agree}
 use Rattle.evaluate.proofs.segments_agree.Given as goal
 

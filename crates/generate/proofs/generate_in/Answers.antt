@@ -1,6 +1,6 @@
 use native.Mathlib.Omega.{arith}
 use Rattle.reader.specs.Reader.{tree_of}
-use Rattle.generate.proofs.Generating.{held, held_few, reaches, not_made, part_refused, part_short, part_written}
+use Rattle.generate.proofs.Generating.{held, held_few, reaches, part_short, part_written}
 use Rattle.generate.proofs.generate_in.Goals as goal
 
 pub overflow_mul-n : goal.overflow_mul-n

@@ -1,7 +1,6 @@
 use native.Mathlib.Omega.{arith}
-use mathlib.Core.Path.{sym, ◌∙◌}
 use Prim.Native.Nat.{◌-◌, ◌^◌}
-use Rattle.lines.proofs.Moves.{ready_fits, step_unread, taken_stops, taken_goes}
+use Rattle.lines.proofs.Moves.{ready_fits}
 use Rattle.lines.proofs.take_word.Goals as goal
 
 pub apply-requires : goal.apply-requires

@@ -1,5 +1,5 @@
 use Rattle.std.proofs.Common.{◌%◌}
-use Rattle.std.proofs.Common.{arith, rules}
+use Rattle.std.proofs.Common.{arith}
 use Rattle.vm.specs.Machine.{effect, jmp}
 use Rattle.machine.proofs.Tables.{seventh}
 use Rattle.machine.proofs.by_class.Goals as goal

@@ -1,4 +1,4 @@
-use Rattle.std.proofs.Common.{refl, arith, rules}
+use Rattle.std.proofs.Common.{refl, arith}
 use Rattle.vm.specs.declared.Effect.TheVariants.{SetA}
 use Rattle.bpf.proofs.Bytes.{be_first}
 use Rattle.machine.proofs.Ways.{then_in, then_out}

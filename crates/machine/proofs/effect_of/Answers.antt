@@ -1,9 +1,3 @@
-use Rattle.std.proofs.Common.{rules}
-use Rattle.machine.proofs.effect_of.Reads as reads
-use Rattle.machine.proofs.effect_of.Lts as lts
-use Rattle.machine.proofs.by_class.Reads as by-class-reads
-use Rattle.machine.proofs.scratch_a.Reads as scratch-a-reads
-use Rattle.machine.proofs.scratch_x.Reads as scratch-x-reads
 use Rattle.vm.specs.Machine.{effect, ld, ldx}
 use Rattle.machine.proofs.effect_of.Goals as goal
 

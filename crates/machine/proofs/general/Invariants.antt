@@ -1,9 +1,5 @@
-use Rattle.std.proofs.Common.{◌≡◌, ◌+◌, ◌-◌, ◌*◌, ◌≤◌, get_or, replicate, sym, refl, ◌∙◌, ap₂, arith, rules, le-ltb, lt-ltb}
-use Rattle.bpf.specs.Program.{insn}
-use Rattle.vm.specs.declared.Effect.{Effect}
-use Rattle.vm.specs.Machine.{effect}
-use Rattle.machine.specs.Runs.{from, goes}
-use Rattle.machine.proofs.Onward.{run_past, run_turn}
+use Rattle.std.proofs.Common.{◌≡◌, ◌-◌, ◌≤◌, replicate}
+use Rattle.machine.specs.Runs.{from}
 use Rattle.machine.proofs.general.Given as goal
 
 abbrev pub invariant-loop-pc : goal.invariant-loop-pc

@@ -1,4 +1,4 @@
-use Rattle.std.proofs.Common.{arith, rules}
+use Rattle.std.proofs.Common.{arith}
 use Rattle.bpf.proofs.Bytes.{be_half}
 use Rattle.machine.proofs.half.Goals as goal
 

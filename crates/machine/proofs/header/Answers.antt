@@ -1,4 +1,4 @@
-use Rattle.std.proofs.Common.{◌*◌, ◌/◌, ◌%◌, refl, ap, ◌∙◌, arith, rules}
+use Rattle.std.proofs.Common.{◌*◌, ◌/◌, ◌%◌, refl, ap, ◌∙◌, arith}
 use Rattle.bpf.proofs.Bytes.{be_first}
 use Rattle.vm.specs.declared.Effect.TheVariants.{SetX}
 use Rattle.machine.specs.Runs.{goes, zeros}

@@ -1,4 +1,4 @@
-use Rattle.std.proofs.Common.{sym, arith, rules}
+use Rattle.std.proofs.Common.{sym, arith}
 use Rattle.bpf.specs.Program.{insn}
 use Rattle.vm.specs.Machine.{jmp}
 use Rattle.machine.proofs.Tables.{jmp_rest}

@@ -1,4 +1,4 @@
-use Rattle.std.proofs.Common.{sym, arith, rules}
+use Rattle.std.proofs.Common.{sym, arith}
 use Rattle.vm.specs.Machine.{ld}
 use Rattle.machine.proofs.Tables.{ld_rest}
 use Rattle.machine.proofs.ld.Goals as goal

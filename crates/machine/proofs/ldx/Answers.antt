@@ -1,4 +1,4 @@
-use Rattle.std.proofs.Common.{sym, arith, rules, eq-eqb, ne_eqb}
+use Rattle.std.proofs.Common.{sym, arith, eq-eqb, ne_eqb}
 use Rattle.vm.specs.Machine.{ldx}
 use Rattle.machine.proofs.Tables.{ldx_rest}
 use Rattle.machine.proofs.ldx.Goals as goal

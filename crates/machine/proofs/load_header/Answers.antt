@@ -1,4 +1,4 @@
-use Rattle.std.proofs.Common.{◌*◌, ◌%◌, sym, arith, rules}
+use Rattle.std.proofs.Common.{◌*◌, ◌%◌, sym, arith}
 use Rattle.bpf.proofs.Bytes.{be_first}
 use Rattle.vm.specs.declared.Effect.TheVariants.{SetX}
 use Rattle.machine.proofs.Loads.{load_in, load_out}

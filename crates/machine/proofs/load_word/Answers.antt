@@ -1,4 +1,4 @@
-use Rattle.std.proofs.Common.{sym, arith, rules}
+use Rattle.std.proofs.Common.{sym, arith}
 use Rattle.vm.specs.declared.Effect.TheVariants.{SetA}
 use Rattle.machine.proofs.Loads.{load_in, load_out}
 use Rattle.machine.proofs.load_word.Goals as goal

@@ -1,4 +1,4 @@
-use Rattle.std.proofs.Common.{true, false, sym, refl, ◌∙◌, arith, rules, eq-eqb, ne_eqb}
+use Rattle.std.proofs.Common.{true, false, sym, ◌∙◌, arith, eq-eqb, ne_eqb}
 use Rattle.machine.proofs.Ways.{next_test}
 use Rattle.machine.proofs.next.Goals as goal
 

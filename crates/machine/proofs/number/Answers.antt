@@ -1,4 +1,4 @@
-use Rattle.std.proofs.Common.{arith, rules}
+use Rattle.std.proofs.Common.{arith}
 use Rattle.bpf.proofs.Bytes.{le_word}
 use Rattle.machine.proofs.number.Goals as goal
 

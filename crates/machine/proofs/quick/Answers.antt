@@ -1,10 +1,6 @@
-use Rattle.std.proofs.Common.{◌≡◌, ◌+◌, ◌-◌, ◌*◌, ◌/◌, ◌%◌, ◌≤◌, length, get_or, sym, refl, ◌∙◌, arith, rules}
-use Rattle.bpf.specs.Bytes.{le_at}
-use Rattle.machine.specs.declared.Way.{Way}
-use Rattle.machine.specs.declared.Way.TheVariants.{On, Jump, Taken, Missed, NextTaken, NextMissed, Accepted, Dropped, Short, Other}
-use Rattle.machine.specs.Runs.{from, went, reach, zeros}
+use Rattle.std.proofs.Common.{◌/◌, sym, ◌∙◌, arith}
+use Rattle.machine.specs.Runs.{zeros}
 use Rattle.machine.proofs.Onward.{run_past}
-use Rattle.machine.proofs.Ways.{moved}
 use Rattle.machine.proofs.quick.Goals as goal
 
 pub returns : goal.returns

@@ -1,10 +1,5 @@
-use Rattle.std.proofs.Common.{◌≡◌, ◌+◌, ◌-◌, ◌*◌, ◌/◌, ◌%◌, ◌≤◌, length, get_or, sym, refl, ◌∙◌, arith, rules}
-use Rattle.bpf.specs.Bytes.{le_at}
-use Rattle.machine.specs.declared.Way.{Way}
-use Rattle.machine.specs.declared.Way.TheVariants.{On, Jump, Taken, Missed, NextTaken, NextMissed, Accepted, Dropped, Short, Other}
-use Rattle.machine.specs.Runs.{from, went, reach, zeros}
-use Rattle.machine.proofs.Onward.{run_past}
-use Rattle.machine.proofs.Ways.{moved}
+use Rattle.std.proofs.Common.{◌≡◌, ◌-◌, ◌/◌, ◌%◌, ◌≤◌}
+use Rattle.machine.specs.Runs.{from, zeros}
 use Rattle.machine.proofs.quick.Given as goal
 
 abbrev pub invariant-loop-at : goal.invariant-loop-at

@@ -1,4 +1,4 @@
-use Rattle.std.proofs.Common.{cond, eqb, refl, arith, rules}
+use Rattle.std.proofs.Common.{cond, eqb, refl}
 use Rattle.vm.specs.Machine.{effect}
 use Rattle.vm.specs.Machine as M
 use Rattle.vm.specs.declared.Verdict.TheVariants as verdict

@@ -1,6 +1,6 @@
-use Rattle.std.proofs.Common.{sym, ap, ◌∙◌, rules}
+use Rattle.std.proofs.Common.{sym, ap, ◌∙◌}
 use Rattle.vm.specs.declared.RunResult.TheVariants.{Ran}
-use Rattle.machine.proofs.Entry.{odd_long, odd_whole, run_odd, run_long, run_from}
+use Rattle.machine.proofs.Entry.{run_odd, run_long, run_from}
 use Rattle.machine.proofs.run.Goals as goal
 
 pub returns-then-odd_program : goal.returns-then-odd_program

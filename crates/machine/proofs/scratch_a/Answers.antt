@@ -1,4 +1,4 @@
-use Rattle.std.proofs.Common.{rules, le-ltb, lt-ltb}
+use Rattle.std.proofs.Common.{le-ltb, lt-ltb}
 use Rattle.vm.specs.Machine.{scratch}
 use Rattle.machine.proofs.scratch_a.Goals as goal
 

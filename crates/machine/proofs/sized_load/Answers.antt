@@ -1,4 +1,4 @@
-use Rattle.std.proofs.Common.{sym, arith, rules}
+use Rattle.std.proofs.Common.{sym, arith}
 use Rattle.vm.specs.Machine.{sized_load}
 use Rattle.machine.proofs.Tables.{sized_rest}
 use Rattle.machine.proofs.sized_load.Goals as goal

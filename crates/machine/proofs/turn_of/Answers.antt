@@ -1,13 +1,8 @@
-use Rattle.std.proofs.Common.{◌≡◌, ◌+◌, ◌*◌, ◌%◌, Bool, cond, not, eqb, ltb, leb, length, get_or, refl, arith, rules}
+use Rattle.std.proofs.Common.{◌+◌, ◌*◌, ◌%◌, cond, not, eqb, ltb, leb, length, get_or, refl, arith}
 use lib.Bits.{bit_and}
-use Rattle.bpf.specs.Program.{insn}
 use Rattle.vm.specs.declared.Verdict.TheVariants as verdict
-use Rattle.vm.specs.declared.Effect.{Effect}
 use Rattle.vm.specs.declared.Effect.TheVariants.{SetA, SetX, Skip, Stop}
-use Rattle.machine.specs.declared.Turn.{Turn}
-use Rattle.machine.specs.declared.Way.TheVariants.{Taken, Missed}
 use Rattle.vm.specs.Machine.{effect, ld, ldx, sized_load, load, alu, jmp}
-use Rattle.machine.specs.Runs.{zeros, Turns, Follows}
 use Rattle.machine.proofs.Ways.{turned, tested, finished}
 use Rattle.machine.proofs.turn_of.Goals as goal
 

@@ -1,4 +1,4 @@
-use mathlib.Core.Path.{sym, ap, ◌∙◌}
+use mathlib.Core.Path.{sym, ◌∙◌}
 use Rattle.codegen.specs.Emit.{ether_proto_offset, net_offset}
 use Rattle.ports.proofs.Hoisting.{dual_absent, dual_at}
 use Rattle.ports.proofs.dual.Goals as goal

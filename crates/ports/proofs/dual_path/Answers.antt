@@ -1,7 +1,7 @@
 use native.Mathlib.Omega.{arith}
 use mathlib.Core.List.{[]}
 use Prim.Native.Nat.{◌+◌}
-use Rattle.emit.proofs.Grow.{then, put_failure, then_failure, sized}
+use Rattle.emit.proofs.Grow.{then, put_failure, sized}
 use Rattle.ports.proofs.Hoisting.{l4_short, path4_short, dual_parts}
 use Rattle.ports.proofs.dual_path.Goals as goal
 

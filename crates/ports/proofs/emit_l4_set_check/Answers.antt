@@ -1,6 +1,5 @@
-use native.Mathlib.Omega.{arith}
 use Rattle.codegen.specs.Emit.{l4_set_check}
-use Rattle.emit.proofs.Grow.{then, put_failure, then_failure, sized}
+use Rattle.emit.proofs.Grow.{then_failure}
 use Rattle.ports.proofs.emit_l4_set_check.Goals as goal
 
 pub returns-in-One : goal.returns-in-One

@@ -1,6 +1,6 @@
 use native.Mathlib.Omega.{arith}
 use mathlib.Core.List.{[]}
-use Rattle.ports.specs.Hoist.{hoist_ip4, hoist_ip6}
+use Rattle.ports.specs.Hoist.{hoist_ip4}
 use Rattle.codegen.specs.Emit.{or_hoist, is_raw, emit_ethertype}
 use mathlib.Core.Bool.{cond}
 use Rattle.codegen.specs.declared.Known.TheVariants.{Unknown}

@@ -1,8 +1,8 @@
 use native.Mathlib.Omega.{arith}
 use mathlib.Core.Path.{refl}
 use mathlib.Core.List.{[]}
-use Rattle.emit.specs.Lines.{op_of, test_of}
-use Rattle.emit.proofs.Grow.{then, put_failure, then_failure, sized}
+use Rattle.emit.specs.Lines.{op_of}
+use Rattle.emit.proofs.Grow.{then, sized}
 use Rattle.ports.proofs.Hoisting.{prereqs_short}
 use Rattle.ports.proofs.emit_port.Goals as goal
 

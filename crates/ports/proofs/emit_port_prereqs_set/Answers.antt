@@ -1,4 +1,4 @@
-use mathlib.Core.Path.{sym, ap, ◌∙◌}
+use mathlib.Core.Path.{sym, ◌∙◌}
 use Rattle.ports.proofs.Hoisting.{unmoved, prereqs_ready, prereqs_ip4, prereqs_ip6, prereqs_dual}
 use Rattle.ports.proofs.emit_port_prereqs_set.Goals as goal
 

@@ -1,7 +1,6 @@
 use borrow.Author.Rules.{rules}
-use native.Mathlib.Omega.{arith}
-use Rattle.emit.specs.Lines.{op_of, test_of}
-use Rattle.emit.proofs.Grow.{then, put_failure, then_failure, sized}
+use Rattle.emit.specs.Lines.{op_of}
+use Rattle.emit.proofs.Grow.{then, put_failure}
 use Rattle.ports.proofs.fork.Goals as goal
 
 pub push-q-requires : goal.push-q-requires

@@ -1,4 +1,4 @@
-use Rattle.emit.proofs.Grow.{then, put_failure, then_failure, sized}
+use Rattle.emit.proofs.Grow.{put_failure}
 use Rattle.ports.proofs.header.Goals as goal
 
 pub returns-in-V6 : goal.returns-in-V6

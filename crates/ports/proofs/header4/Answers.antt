@@ -2,7 +2,7 @@ use borrow.Author.Rules.{rules}
 use native.Mathlib.Omega.{arith}
 use Rattle.emit.specs.Lines.{op_of, test_of}
 use Rattle.codegen.specs.Emit.{header4}
-use Rattle.emit.proofs.Grow.{then, put_failure, then_failure, sized}
+use Rattle.emit.proofs.Grow.{then, put_failure}
 use Rattle.ports.proofs.header4.Goals as goal
 
 pub push-q-requires : goal.push-q-requires

@@ -1,5 +1,5 @@
 use borrow.Author.Rules.{rules}
-use Rattle.emit.specs.Lines.{op_of, test_of}
+use Rattle.emit.specs.Lines.{op_of}
 use Rattle.codegen.specs.Emit.{header6}
 use Rattle.ports.proofs.header6.Goals as goal
 

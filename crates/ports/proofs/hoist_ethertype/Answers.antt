@@ -2,7 +2,7 @@ use mathlib.Core.Path.{sym, ap, ◌∙◌}
 use mathlib.Core.Bool.{cond}
 use Rattle.codegen.specs.declared.Known.TheVariants.{Unknown}
 use Rattle.codegen.specs.Emit.{emit_ethertype}
-use Rattle.ports.proofs.Hoisting.{hoist_unknown, hoist_is}
+use Rattle.ports.proofs.Hoisting.{hoist_unknown}
 use Rattle.ports.proofs.hoist_ethertype.Goals as goal
 
 pub returns-then-is_raw : goal.returns-then-is_raw

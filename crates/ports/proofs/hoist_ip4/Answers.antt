@@ -1,9 +1,8 @@
 use native.Mathlib.Omega.{arith}
 use mathlib.Core.List.{[]}
-use Rattle.conditions.specs.Loads.{emit_version}
 use Rattle.conditions.specs.declared.Version.TheVariants.{V4}
-use Rattle.ports.specs.Hoist.{hoist_ip4, hoist_ip6}
-use Rattle.emit.proofs.Outcome.{bind_refused, reply_done}
+use Rattle.ports.specs.Hoist.{hoist_ip6}
+use Rattle.emit.proofs.Outcome.{reply_done}
 use Rattle.ports.proofs.Hoisting.{follow, ip6_follows, went_sized, version_known_short}
 use Rattle.ports.proofs.hoist_ip4.Goals as goal
 

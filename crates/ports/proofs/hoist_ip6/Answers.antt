@@ -1,11 +1,10 @@
 use native.Mathlib.Omega.{arith}
-use mathlib.Core.Path.{ap}
 use mathlib.Core.List.{[]}
 use Rattle.conditions.specs.declared.Version.TheVariants.{V6}
 use Rattle.codegen.specs.Facts.{ready_set}
 use Rattle.codegen.specs.Emit.{hoist_ports}
-use Rattle.emit.proofs.Outcome.{bind_refused, reply_done}
-use Rattle.ports.proofs.Hoisting.{follow, ports_follow, went_sized, version_known_short, hoist_not_ready}
+use Rattle.emit.proofs.Outcome.{reply_done}
+use Rattle.ports.proofs.Hoisting.{follow, ports_follow, went_sized, version_known_short}
 use Rattle.ports.proofs.hoist_ip6.Goals as goal
 
 pub hoist_ports-requires : goal.hoist_ports-requires

@@ -1,8 +1,7 @@
 use borrow.Author.Rules.{rules}
-use native.Mathlib.Omega.{arith}
-use Rattle.emit.specs.Lines.{op_of, test_of}
+use Rattle.emit.specs.Lines.{op_of}
 use Rattle.codegen.specs.Emit.{l4_check}
-use Rattle.emit.proofs.Grow.{then, put_failure, then_failure, sized}
+use Rattle.emit.proofs.Grow.{then_failure}
 use Rattle.ports.proofs.l4_check.Goals as goal
 
 pub push-q-requires : goal.push-q-requires

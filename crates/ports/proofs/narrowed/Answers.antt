@@ -1,8 +1,3 @@
-use Rattle.ports.proofs.narrowed.Reads as reads
-use Rattle.ports.proofs.narrowed.Lts as lts
-use Rattle.conditions.proofs.proto_place.Reads as proto-place-reads
-use Rattle.ports.proofs.established.Reads as established-reads
-use Rattle.ports.proofs.l4_check.Reads as l4-check-reads
 use Rattle.ports.proofs.Hoisting.{made_failure}
 use Rattle.ports.proofs.narrowed.Goals as goal
 

@@ -1,6 +1,6 @@
 use native.Mathlib.Omega.{arith}
 use mathlib.Core.List.{[]}
-use Rattle.emit.proofs.Grow.{then, put_failure, then_failure, sized}
+use Rattle.emit.proofs.Grow.{then, put_failure, sized}
 use Rattle.ports.proofs.Hoisting.{l4_short}
 use Rattle.ports.proofs.path.Goals as goal
 

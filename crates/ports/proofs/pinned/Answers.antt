@@ -1,4 +1,4 @@
-use mathlib.Core.Path.{sym, ap, ◌∙◌}
+use mathlib.Core.Path.{sym, ◌∙◌}
 use Prim.Native.Nat.{◌+◌}
 use Rattle.conditions.specs.Loads.{proto_place, proto_fact, learn_proto, header}
 use Rattle.ports.proofs.Hoisting.{pinned_met, pinned_other, pinned_unknown}

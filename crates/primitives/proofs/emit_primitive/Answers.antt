@@ -1,6 +1,3 @@
-use native.Mathlib.Omega.{arith}
-use mathlib.Core.Path.{refl, sym}
-use mathlib.Core.Logic.{inl, inr}
 use Rattle.primitives.proofs.Leaves.{ether_host}
 use Rattle.reader.proofs.Firsts.{kind_is}
 use Rattle.primitives.proofs.emit_primitive.Goals as goal

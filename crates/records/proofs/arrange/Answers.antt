@@ -1,7 +1,5 @@
-use native.Mathlib.Omega.{arith}
 use mathlib.Core.Path.{refl}
-use lib.ListN.{drop}
-use Rattle.records.proofs.Slices.{Arranging, arranging_start, arranging_next, arranging_end}
+use Rattle.records.proofs.Slices.{arranging_start, arranging_next, arranging_end}
 use Rattle.records.proofs.arrange.Goals as goal
 
 pub loop-i-init : goal.loop-i-init

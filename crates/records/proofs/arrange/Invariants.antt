@@ -1,7 +1,5 @@
-use native.Mathlib.Omega.{arith}
-use mathlib.Core.Path.{refl}
 use lib.ListN.{drop}
-use Rattle.records.proofs.Slices.{Arranging, arranging_start, arranging_next, arranging_end}
+use Rattle.records.proofs.Slices.{Arranging}
 use Rattle.records.proofs.arrange.Given as goal
 
 abbrev pub invariant-loop-i : goal.invariant-loop-i

@@ -1,5 +1,5 @@
 use mathlib.Core.Path.{sym, ◌∙◌}
-use Rattle.records.proofs.Slices.{place_join, place_leaf}
+use Rattle.records.proofs.Slices.{place_join}
 use Rattle.records.proofs.place.Goals as goal
 
 pub returns-then-is_join : goal.returns-then-is_join

@@ -1,4 +1,4 @@
-use Rattle.records.proofs.Slices.{Popping, popping_start, popping_stop, popping_next, popping_end}
+use Rattle.records.proofs.Slices.{popping_stop, popping_next, popping_end}
 use Rattle.records.proofs.pop.Goals as goal
 
 pub returns-then-y-depth : goal.returns-then-y-depth

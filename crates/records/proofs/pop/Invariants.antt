@@ -1,4 +1,4 @@
-use Rattle.records.proofs.Slices.{Popping, popping_start, popping_stop, popping_next, popping_end}
+use Rattle.records.proofs.Slices.{Popping}
 use Rattle.records.proofs.pop.Given as goal
 
 abbrev pub invariant-loop-n : goal.invariant-loop-n

@@ -1,8 +1,6 @@
-use mathlib.Core.Path.{refl}
 use mathlib.Core.List.{[], ◌∷◌}
 use native.Mathlib.Omega.{arith}
 use native.Mathlib.Numerals.{towards_suc}
-use lib.ListN.{length-set}
 use lib.Seq.{sets-eq}
 use Rattle.records.proofs.put8.Goals as goal
 

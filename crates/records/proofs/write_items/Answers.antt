@@ -1,7 +1,4 @@
-use native.Mathlib.Omega.{arith}
-use mathlib.Core.Path.{◌≡◌}
-use Prim.Native.Nat.{◌-◌}
-use Rattle.records.proofs.Writes.{Filling, filling_start, filling_next, wrote_length}
+use Rattle.records.proofs.Writes.{filling_next}
 use Rattle.records.proofs.write_items.Goals as goal
 
 pub loop-i-preserved : goal.loop-i-preserved

@@ -1,7 +1,5 @@
-use native.Mathlib.Omega.{arith}
-use mathlib.Core.Path.{◌≡◌}
 use Prim.Native.Nat.{◌-◌}
-use Rattle.records.proofs.Writes.{Filling, filling_start, filling_next, wrote_length}
+use Rattle.records.proofs.Writes.{Filling}
 use Rattle.records.proofs.write_items.Given as goal
 
 abbrev pub invariant-loop-i : goal.invariant-loop-i

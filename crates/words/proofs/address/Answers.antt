@@ -1,4 +1,3 @@
-use native.Mathlib.Omega.{arith}
 use mathlib.Core.Path.{sym}
 use Rattle.words.proofs.Addresses.{none_first, none_second, missing_second, too_long, just_right}
 use Rattle.words.proofs.address.Goals as goal

@@ -1,9 +1,8 @@
-use Prim.Native.Nat.{◌+◌, ◌-◌, ◌≤◌}
-use mathlib.Core.Path.{◌≡◌, refl, sym, ap, ◌∙◌}
-use native.Mathlib.Omega.{arith}
-use lib.ListN.{length, drop}
-use Rattle.words.specs.Tokens.{amount, counted}
-use Rattle.words.proofs.Scans.{low_digit, high_digit, next_digit, over_most, last_digit}
+use Prim.Native.Nat.{◌+◌}
+use mathlib.Core.Path.{sym, ap, ◌∙◌}
+use lib.ListN.{drop}
+use Rattle.words.specs.Tokens.{amount}
+use Rattle.words.proofs.Scans.{next_digit, over_most}
 use Rattle.words.proofs.digits.Goals as goal
 
 pub returns-then-v-most : goal.returns-then-v-most

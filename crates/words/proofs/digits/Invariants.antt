@@ -1,9 +1,7 @@
-use Prim.Native.Nat.{◌+◌, ◌-◌, ◌≤◌}
-use mathlib.Core.Path.{◌≡◌, refl, sym, ap, ◌∙◌}
-use native.Mathlib.Omega.{arith}
+use Prim.Native.Nat.{◌-◌, ◌≤◌}
+use mathlib.Core.Path.{◌≡◌}
 use lib.ListN.{length, drop}
-use Rattle.words.specs.Tokens.{amount, counted}
-use Rattle.words.proofs.Scans.{low_digit, high_digit, next_digit, over_most, last_digit}
+use Rattle.words.specs.Tokens.{counted}
 use Rattle.words.proofs.digits.Given as goal
 
 abbrev pub invariant-loop-i : goal.invariant-loop-i

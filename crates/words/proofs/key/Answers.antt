@@ -1,9 +1,6 @@
 use native.Mathlib.Omega.{arith}
-use Prim.Native.Nat.{ℕ, ◌-◌, ◌≤◌}
-use mathlib.Core.Path.{◌≡◌, sym, ap, ◌∙◌}
-use lib.ListN.{length, drop}
-use Rattle.words.specs.Tokens.{packed}
-use Rattle.words.proofs.Scans.{key_long, key_packed, packed_end, packed_next, packed_room}
+use Prim.Native.Nat.{◌-◌}
+use Rattle.words.proofs.Scans.{packed_room}
 use Rattle.words.proofs.key.Goals as goal
 
 pub overflow_mul-key : goal.overflow_mul-key

@@ -1,9 +1,7 @@
-use native.Mathlib.Omega.{arith}
-use Prim.Native.Nat.{ℕ, ◌-◌, ◌≤◌}
-use mathlib.Core.Path.{◌≡◌, sym, ap, ◌∙◌}
+use Prim.Native.Nat.{◌≤◌}
+use mathlib.Core.Path.{◌≡◌}
 use lib.ListN.{length, drop}
 use Rattle.words.specs.Tokens.{packed}
-use Rattle.words.proofs.Scans.{key_long, key_packed, packed_end, packed_next, packed_room}
 use Rattle.words.proofs.key.Given as goal
 
 abbrev pub invariant-loop-i : goal.invariant-loop-i

@@ -1,5 +1,4 @@
-use native.Mathlib.Omega.{arith}
-use Rattle.words.proofs.Addresses.{first_missing, no_second, second_missing, both}
+use Rattle.words.proofs.Addresses.{no_second}
 use Rattle.words.proofs.pair_at.Goals as goal
 
 pub returns-then-i-text : goal.returns-then-i-text

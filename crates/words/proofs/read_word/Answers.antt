@@ -4,7 +4,6 @@ use Rattle.typing.specs.Words.{keywords}
 use Rattle.words.specs.Tokens.{coded, by_key}
 use Rattle.words.proofs.Keys.{unknown_word, known_word}
 use native.Mathlib.Omega.{arith}
-use mathlib.Core.List.{[], ◌∷◌}
 use Rattle.words.proofs.read_word.Goals as goal
 
 pub returns-in-Unknown : goal.returns-in-Unknown

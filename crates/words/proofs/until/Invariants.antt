@@ -1,9 +1,7 @@
 use Prim.Native.Nat.{◌+◌, ◌-◌, ◌≤◌}
-use mathlib.Core.Path.{◌≡◌, refl}
-use native.Mathlib.Omega.{arith}
+use mathlib.Core.Path.{◌≡◌}
 use lib.ListN.{length, drop}
 use Rattle.typing.specs.Words.{up_to}
-use Rattle.words.proofs.Scans.{stop_here, stop_later, stop_end}
 use Rattle.words.proofs.until.Given as goal
 
 abbrev pub invariant-loop-i : goal.invariant-loop-i
