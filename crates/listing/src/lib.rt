@@ -1,12 +1,14 @@
 // A program's listing: document 01's, those of `tcpdump -d` and `-dd`, and the line that tc and iptables take.
 #![tactic(auto)]
+
 ghost use Rattle.std.specs.Prelude.{◌+◌, ◌*◌, ◌≤◌, ◌<◌, ◌≡◌, length};
 ghost use Rattle.bpf.specs.Program.{insn_at};
 
 use bpf::Insn;
+use std::io::{Print, Result};
 
 // How a program is listed.
-#[derive(Drop)]
+#[derive(Clone, Copy)]
 pub enum Form {
     // The count, then code, jt, jf and k of each instruction, a line each.
     Numbers,
@@ -318,27 +320,30 @@ fn put_end(page: &mut Page, at: usize, form: Form) -> usize
     }
 }
 
-fn written(fd: i32, page: Page, n: usize) -> bool
+fn write<P: Print>(to: &P, page: &Page, n: usize) -> Result<()>
     requires { n ≤ 4096 }
 {
-    io::write_all(fd, &page[..n])
+    to.write_all(&page[..n])
 }
 
-// Writes the listing of the first instructions of a buffer, which has room for 4,096, and answers whether all of it could be written.
-pub fn put_program(fd: i32, program: &[u8; 32768], count: usize, form: Form) -> bool {
+// Writes the listing of the first instructions of a buffer, which has room for 4,096.
+pub fn put_program<P: Print>(
+    to: &P,
+    program: &[u8; 32768],
+    count: usize,
+    form: Form,
+) -> Result<()> {
     let mut page = [0u8; 4096];
     let mut end = put_count(&mut page, count as u64, form);
     let mut i = 0;
     while i < 4096 && i < count {
         end = put_line(&mut page, end, insn_at(program, 8 * i), i as u64, form);
         if end > ROOMY {
-            if !written(fd, page, end) {
-                return false;
-            }
+            write(to, &page, end)?;
             end = 0;
         }
         i += 1;
     }
     end = put_end(&mut page, end, form);
-    written(fd, page, end)
+    write(to, &page, end)
 }

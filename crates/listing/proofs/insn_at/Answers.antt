@@ -1,5 +1,3 @@
--- The numbers that the bytes make are those of the definition.
-use borrow.Author.Rules.{rules}
 use native.Mathlib.Omega.{arith}
 use Prim.Native.Nat.{ℕ, ◌+◌, ◌*◌}
 use mathlib.Core.Path.{◌≡◌, ap₂, ◌∙◌}
@@ -8,8 +6,7 @@ use lib.ListN.{get_or}
 use Rattle.bpf.specs.Bytes.{le_at}
 use Rattle.bpf.specs.Program.{insn, insn_at}
 use Rattle.bpf.proofs.Bytes.{le_next, le_last}
-use Rattle.listing.proofs.insn_at.Statement.{statement}
-use Rattle.listing.proofs.insn_at.Tie as tie
+use Rattle.listing.proofs.insn_at.Goals as goal
 
 le-half : (at : ℕ) (s : List ℕ) → le_at 2 at s ≡ get_or s at 0 + 256 * get_or s (at + 1) 0
 le-half at s = le_next 1 at (at + 1) s (omega arith) (le_last (at + 1) s)
@@ -23,30 +20,5 @@ same : (at code k : ℕ) (s : List ℕ) → code ≡ le_at 2 at s → k ≡ le_a
 unfolding insn_at
 same at code k s e f = ap₂ (λ c n. insn c (get_or s (at + 2) 0) (get_or s (at + 3) 0) n) e f
 
-returns : tie.Need-returns
+pub returns : goal.returns
 returns c = same _ _ _ _ (rw le-half (omega arith)) (rw le-whole (omega arith))
-
-pub insn-at-spec : {M : Type 1} → statement M
-insn-at-spec =
-    tie.close
-    (tie.spec
-    (λ c. search rules)
-    (λ c. search rules)
-    (λ c. search rules)
-    (λ c. search rules)
-    (λ c κs. search rules)
-    (λ c. search rules)
-    (λ c. search rules)
-    (λ c. search rules)
-    (λ c. search rules)
-    (λ c κs. search rules)
-    (λ c. search rules)
-    (λ c. search rules)
-    (λ c. search rules)
-    (λ c κs. search rules)
-    (λ c. search rules)
-    (λ c. search rules)
-    (λ c. search rules)
-    (λ c. search rules)
-    (λ c κs. search rules)
-    returns)
