@@ -1,13 +1,13 @@
 // The program of bin/pft.
 #![tactic(auto)]
-use frames::Output;
-use libc::{STDERR_FILENO, STDOUT_FILENO};
 
-fn main() {
+use frames::{Output, Stream};
+
+fn main(rt: HostRuntime) {
     let o = Output {
-        answers: STDOUT_FILENO,
-        messages: STDERR_FILENO,
+        answers: Stream::Output(rt.stdout()),
+        messages: Stream::Error(rt.stderr()),
     };
-    let ended = frames::answer(1, os::arg_count(), o);
+    let ended = frames::answer(&rt, 1, frames::argument_count(&rt), o);
     frames::tell(frames::STATUS_FILENO, ended);
 }

@@ -5,9 +5,10 @@ ghost use Rattle.capture.specs.Promises.{Sound};
 ghost use Rattle.files.specs.Windows.{beginning, is_turned, Used, Whole};
 ghost use Rattle.files.specs.declared.windows.Counted.TheVariants.{Read};
 
-use crate::read_from;
+use crate::{errno, read_from};
 use ast::LinkType;
 use capture::{CountResult, Stage, Tally};
+use std::io::{Error, Read};
 
 // The most bytes that a file can have. Of a pipe that gives more nothing is counted.
 const MOST: usize = 9223372036854775807;
@@ -20,11 +21,11 @@ struct Progress {
     left: usize,
 }
 
-// The frames of a capture; or errno.
+// The frames of a capture; or why it cannot be read.
 #[derive(Drop)]
 pub enum Counted {
     Read(CountResult),
-    Failed(i32),
+    Failed(Error),
 }
 
 fn unread() -> Progress
@@ -106,8 +107,13 @@ fn finished(p: Progress) -> Counted
     Counted::Read(capture::finish(stage, tally, p.left))
 }
 
-// Reads a file to its end or to a refusal.
-pub fn count(fd: i32, program: &[u8], link: LinkType, buffer: &mut [u8]) -> Counted
+// What is said of a pipe that gives more than a file can have.
+fn too_long() -> Counted {
+    Counted::Failed(Error::from_raw_os_error(errno::EFBIG))
+}
+
+// Reads a capture to its end or to a refusal.
+pub fn count<R: Read>(reader: &mut R, program: &[u8], link: LinkType, buffer: &mut [u8]) -> Counted
     requires { (65551 ≤ length buffer.old) × (length buffer.old ≤ 2 ^ 62) }
     ensures { Whole program.now link result }
 {
@@ -119,16 +125,13 @@ pub fn count(fd: i32, program: &[u8], link: LinkType, buffer: &mut [u8]) -> Coun
         }
         let tally = p.tally;
         if MOST < tally.stop {
-            return Counted::Failed(libc::EFBIG);
+            return too_long();
         }
         let left = p.left;
-        let got = read_from(fd, buffer, left);
-        if got.error != 0 {
-            return Counted::Failed(got.error);
+        match read_from(reader, buffer, left) {
+            Ok(0) => return finished(p),
+            Ok(n) => p = use_window(program, link, p, buffer, left + n),
+            Err(error) => return Counted::Failed(error),
         }
-        if got.count == 0 {
-            return finished(p);
-        }
-        p = use_window(program, link, p, buffer, left + got.count);
     }
 }

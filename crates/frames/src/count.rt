@@ -1,12 +1,16 @@
 // `pft count`: what is answered of a capture, how many of its frames a program keeps.
 ghost use Rattle.std.specs.Prelude.{◌≡◌, length};
 
-use crate::{Output, REFUSED, answered, put_name, put_refused, refused, text, unread, worse};
+use crate::{
+    Output, REFUSED, Stream, answered, put_name, put_refused, refused, text, unread, worse,
+};
 use ast::LinkType;
 use capture::{CountResult, Tally};
 use error::Refusal;
 use files::Counted;
 use reader::Checked;
+use std::io::{Input, Print, Result};
+use std::rt::Files;
 
 // Room for the longest frame with its header, 65,551 bytes, and for many others in one read.
 const ROOM: usize = 262144;
@@ -17,27 +21,23 @@ fn room() -> [u8; ROOM]
     [0; ROOM]
 }
 
-// ---- answers; each function tells whether it could be written
+// ---- answers
 
-fn put_counts(fd: i32, name: &[u8], tally: Tally, of: &[u8]) -> bool {
-    put_name(fd, name)
-        && text(fd, b": kept ")
-        && io::print_decimal(fd, tally.kept)
-        && text(fd, of)
-        && io::print_decimal(fd, tally.given)
-        && text(fd, b" frames\n")
+fn put_counts(to: Stream, name: &[u8], tally: Tally, of: &str) -> Result<()> {
+    put_name(to, name)?;
+    print!(to; ": kept {}{of}{} frames\n", tally.kept, tally.given)
 }
 
-fn put_all(fd: i32, name: &[u8], tally: Tally) -> bool {
-    put_counts(fd, name, tally, b" of ")
+fn put_all(to: Stream, name: &[u8], tally: Tally) -> Result<()> {
+    put_counts(to, name, tally, " of ")
 }
 
 // The frames before a bad one.
-fn put_first(fd: i32, name: &[u8], tally: Tally) -> bool {
-    put_counts(fd, name, tally, b" of the first ")
+fn put_first(to: Stream, name: &[u8], tally: Tally) -> Result<()> {
+    put_counts(to, name, tally, " of the first ")
 }
 
-// ---- what follows a refusal's word; each function tells whether it could be written
+// ---- what follows a refusal's word
 
 // The number after another. No file has so many frames that there is none.
 fn next(n: u64) -> u64 {
@@ -45,19 +45,16 @@ fn next(n: u64) -> u64 {
 }
 
 // The bad frame's number, from 1 on, and the place of its header in the file.
-fn put_place(fd: i32, tally: Tally) -> bool {
-    text(fd, b", at frame ")
-        && io::print_decimal(fd, next(tally.given))
-        && text(fd, b", byte ")
-        && io::print_decimal(fd, tally.stop as u64)
+fn put_place(to: Stream, tally: Tally) -> Result<()> {
+    print!(to; ", at frame {}, byte {}", next(tally.given), tally.stop)
 }
 
 // The link that a capture has to have for a tree.
-fn put_link(fd: i32, link: LinkType) -> bool {
+fn put_link(to: Stream, link: LinkType) -> Result<()> {
     match link {
-        LinkType::Ethernet => text(fd, b", the tree is for Ethernet (1)"),
-        LinkType::RawIp => text(fd, b", the tree is for RawIp (101)"),
-        LinkType::LinuxSll => text(fd, b", the tree is for LinuxSll (113)"),
+        LinkType::Ethernet => text(to, b", the tree is for Ethernet (1)"),
+        LinkType::RawIp => text(to, b", the tree is for RawIp (101)"),
+        LinkType::LinuxSll => text(to, b", the tree is for LinuxSll (113)"),
     }
 }
 
@@ -66,23 +63,36 @@ fn is_pcapng(start: &[u8]) -> bool {
     if start.len() < 4 {
         return false;
     }
-    check::same(&start[0..4], b"\n\r\r\n")
+    &start[0..4] == b"\n\r\r\n".as_slice()
 }
 
-fn put_kind(fd: i32, start: &[u8]) -> bool {
+fn put_kind(to: Stream, start: &[u8]) -> Result<()> {
     if is_pcapng(start) {
-        return text(fd, b", it is pcapng");
+        return text(to, b", it is pcapng");
     }
-    true
+    Ok(())
 }
 
-fn put_detail(fd: i32, r: Refusal, tally: Tally, link: LinkType, start: &[u8]) -> bool {
+fn put_detail(to: Stream, r: Refusal, tally: Tally, link: LinkType, start: &[u8]) -> Result<()> {
     match r {
-        Refusal::NoCapture => put_kind(fd, start),
-        Refusal::OtherLink => put_link(fd, link),
-        Refusal::CutFrame => put_place(fd, tally),
-        _ => true,
+        Refusal::NoCapture => put_kind(to, start),
+        Refusal::OtherLink => put_link(to, link),
+        Refusal::CutFrame => put_place(to, tally),
+        _ => Ok(()),
     }
+}
+
+fn put_line(
+    to: Stream,
+    name: &[u8],
+    r: Refusal,
+    tally: Tally,
+    link: LinkType,
+    start: &[u8],
+) -> Result<()> {
+    put_refused(to, name, r)?;
+    put_detail(to, r, tally, link, start)?;
+    text(to, b"\n")
 }
 
 // ---- refusals
@@ -95,9 +105,7 @@ fn turned_down(
     start: &[u8],
     o: Output,
 ) -> u8 {
-    put_refused(o.messages, name, r);
-    put_detail(o.messages, r, tally, link, start);
-    text(o.messages, b"\n");
+    let _ = put_line(o.messages, name, r, tally, link, start);
     REFUSED
 }
 
@@ -130,21 +138,34 @@ fn tell(name: &[u8], counted: Counted, link: LinkType, start: &[u8], o: Output) 
     }
 }
 
-fn count_file(name: &[u8], program: &[u8], link: LinkType, o: Output) -> u8 {
-    let fd = files::open(name);
-    if fd < 0 {
-        return unread(o, name, os::errno());
+fn count_file(
+    rt: &(impl Files + Input),
+    name: &[u8],
+    program: &[u8],
+    link: LinkType,
+    o: Output,
+) -> u8 {
+    match files::open(rt, name) {
+        Ok(mut source) => {
+            let mut buffer = room();
+            let counted = files::count(&mut source, program, link, &mut buffer);
+            files::close(source);
+            tell(name, counted, link, &buffer, o)
+        }
+        Err(error) => unread(o, name, error),
     }
-    let mut buffer = room();
-    let counted = files::count(fd, program, link, &mut buffer);
-    files::close(fd);
-    tell(name, counted, link, &buffer, o)
 }
 
 // The tree is one that was built.
-pub fn try_file(name: &[u8], tree: &[u8], program: &[u8], o: Output) -> u8 {
+pub fn try_file(
+    rt: &(impl Files + Input),
+    name: &[u8],
+    tree: &[u8],
+    program: &[u8],
+    o: Output,
+) -> u8 {
     match reader::header(tree) {
-        Checked::Link(link) => count_file(name, program, link, o),
+        Checked::Link(link) => count_file(rt, name, program, link, o),
         Checked::Refused(r) => refused(o, name, r),
     }
 }

@@ -1,23 +1,31 @@
 // What `pft` answers and says: its subcommands over trees, which are files or typed lines, frame files and captures by name.
 #![tactic(auto)]
+
+mod argument;
 mod count;
 mod list;
 mod over;
 mod run;
 mod size;
+mod stream;
 mod tree;
 mod typed;
 
+pub use argument::{argument_count, word};
 use error::{Refusal, refusal_number};
+use files::errno;
 pub use list::list_input;
 use over::Work;
+use std::io::{Error, ErrorKind, Input, Print, Result};
+use std::rt::{Env, Files};
+pub use stream::Stream;
 use tree::Job;
 
-// Where lines go: descriptors for answers, and for what is refused or cannot be read.
-#[derive(Drop)]
+// Where lines go: answers, and what is refused or cannot be read.
+#[derive(Clone, Copy)]
 pub struct Output {
-    pub answers: i32,
-    pub messages: i32,
+    pub answers: Stream,
+    pub messages: Stream,
 }
 
 // How a part of the work ended. Where several end differently the largest holds, and UNWRITTEN, which tell makes FAILED, ends the work.
@@ -31,7 +39,7 @@ const FAILED: u8 = 3;
 
 const UNWRITTEN: u8 = 4;
 
-// The descriptor that takes the exit status: a program of Rattle cannot set its own.
+// The descriptor that takes the exit status, as the scripts that start the program read it.
 pub const STATUS_FILENO: i32 = 9;
 
 fn worse(a: u8, b: u8) -> u8 {
@@ -44,108 +52,134 @@ pub fn tell(fd: i32, ended: u8) {
     io::print_decimal(fd, status as u64);
 }
 
-// ---- words; each function answers whether they could be written
+// ---- words
 
-fn text(fd: i32, s: &[u8]) -> bool {
-    io::write_all(fd, s)
+fn text(to: Stream, s: &[u8]) -> Result<()> {
+    to.write_all(s)
 }
 
 // The words of document 01's table and of the requests.
-fn put_refusal(fd: i32, r: Refusal) -> bool {
+fn put_refusal(to: Stream, r: Refusal) -> Result<()> {
     match r {
-        Refusal::StrangeFile => text(fd, b"strange file"),
-        Refusal::WrongCount => text(fd, b"wrong count"),
-        Refusal::BadRecord => text(fd, b"bad record"),
-        Refusal::NotOneTree => text(fd, b"not one tree"),
-        Refusal::KindOnRaw => text(fd, b"kind on raw"),
-        Refusal::PortProtocol => text(fd, b"port protocol"),
-        Refusal::EtherOnRaw => text(fd, b"ether on raw"),
-        Refusal::FarJump => text(fd, b"far jump"),
-        Refusal::ShortBuffer => text(fd, b"short buffer"),
-        Refusal::LongFrame => text(fd, b"long frame"),
-        Refusal::OddProgram => text(fd, b"odd program"),
-        Refusal::NoCapture => text(fd, b"no capture"),
-        Refusal::OtherLink => text(fd, b"other link"),
-        Refusal::CutFrame => text(fd, b"cut frame"),
-        Refusal::CookedAddress => text(fd, b"cooked address"),
-        Refusal::UnknownWord => text(fd, b"unknown word"),
-        Refusal::Unfinished => text(fd, b"unfinished"),
-        Refusal::TooLarge => text(fd, b"too large"),
-        Refusal::CountMoved => text(fd, b"count moved"),
+        Refusal::StrangeFile => text(to, b"strange file"),
+        Refusal::WrongCount => text(to, b"wrong count"),
+        Refusal::BadRecord => text(to, b"bad record"),
+        Refusal::NotOneTree => text(to, b"not one tree"),
+        Refusal::KindOnRaw => text(to, b"kind on raw"),
+        Refusal::PortProtocol => text(to, b"port protocol"),
+        Refusal::EtherOnRaw => text(to, b"ether on raw"),
+        Refusal::FarJump => text(to, b"far jump"),
+        Refusal::ShortBuffer => text(to, b"short buffer"),
+        Refusal::LongFrame => text(to, b"long frame"),
+        Refusal::OddProgram => text(to, b"odd program"),
+        Refusal::NoCapture => text(to, b"no capture"),
+        Refusal::OtherLink => text(to, b"other link"),
+        Refusal::CutFrame => text(to, b"cut frame"),
+        Refusal::CookedAddress => text(to, b"cooked address"),
+        Refusal::UnknownWord => text(to, b"unknown word"),
+        Refusal::Unfinished => text(to, b"unfinished"),
+        Refusal::TooLarge => text(to, b"too large"),
+        Refusal::CountMoved => text(to, b"count moved"),
     }
 }
 
 // Why a file cannot be read or written, by errno.
-fn put_reason(fd: i32, error: i32) -> bool {
-    match error {
-        libc::ENOENT => text(fd, b"no such file\n"),
-        libc::EACCES => text(fd, b"permission denied\n"),
-        libc::EISDIR => text(fd, b"it is a directory\n"),
-        libc::ENOTDIR => text(fd, b"a part of its path is not a directory\n"),
-        libc::ENAMETOOLONG => text(fd, b"its name is too long\n"),
-        libc::ELOOP => text(fd, b"too many links\n"),
-        libc::EBADF => text(fd, b"it is not open\n"),
-        libc::EFBIG => text(fd, b"it is too long\n"),
-        libc::ENOSPC => text(fd, b"no space is left\n"),
-        libc::EPIPE => text(fd, b"nobody reads it\n"),
-        _ => text(fd, b"the system reports an error\n"),
+fn put_number_reason(to: Stream, number: i32) -> Result<()> {
+    match number {
+        errno::ENOENT => text(to, b"no such file\n"),
+        errno::EACCES => text(to, b"permission denied\n"),
+        errno::EISDIR => text(to, b"it is a directory\n"),
+        errno::ENOTDIR => text(to, b"a part of its path is not a directory\n"),
+        errno::ENAMETOOLONG => text(to, b"its name is too long\n"),
+        errno::ELOOP => text(to, b"too many links\n"),
+        errno::EBADF => text(to, b"it is not open\n"),
+        errno::EFBIG => text(to, b"it is too long\n"),
+        errno::ENOSPC => text(to, b"no space is left\n"),
+        errno::EPIPE => text(to, b"nobody reads it\n"),
+        _ => text(to, b"the system reports an error\n"),
+    }
+}
+
+// The same, of an error that may have no errno.
+fn put_reason(to: Stream, error: Error) -> Result<()> {
+    match error.raw_os_error() {
+        Some(number) => put_number_reason(to, number),
+        None => match error.kind() {
+            ErrorKind::InvalidFilename => text(to, b"its name is not UTF-8\n"),
+            _ => text(to, b"the system reports an error\n"),
+        },
     }
 }
 
 // A file's name; `-` is standard input.
-fn put_name(fd: i32, name: &[u8]) -> bool {
-    if check::same(name, b"-") {
-        return text(fd, b"standard input");
+fn put_name(to: Stream, name: &[u8]) -> Result<()> {
+    if name == b"-".as_slice() {
+        return text(to, b"standard input");
     }
-    text(fd, name)
+    text(to, name)
 }
 
-// ---- lines of people; each function answers how that part of the work ended
-
 // A refusal by number and word.
-fn put_numbered(fd: i32, r: Refusal) {
-    text(fd, b"refused ");
-    io::print_decimal(fd, refusal_number(r) as u64);
-    text(fd, b", ");
-    put_refusal(fd, r);
+fn put_numbered(to: Stream, r: Refusal) -> Result<()> {
+    print!(to; "refused {}, ", refusal_number(r))?;
+    put_refusal(to, r)
 }
 
 // The front of a line on a refusal.
-fn put_refused(fd: i32, name: &[u8], r: Refusal) {
-    put_name(fd, name);
-    text(fd, b": ");
-    put_numbered(fd, r);
+fn put_refused(to: Stream, name: &[u8], r: Refusal) -> Result<()> {
+    put_name(to, name)?;
+    text(to, b": ")?;
+    put_numbered(to, r)
 }
 
+fn put_refused_line(to: Stream, name: &[u8], r: Refusal) -> Result<()> {
+    put_refused(to, name, r)?;
+    text(to, b"\n")
+}
+
+fn put_unread(to: Stream, name: &[u8], error: Error) -> Result<()> {
+    put_name(to, name)?;
+    text(to, b": cannot be read, ")?;
+    put_reason(to, error)
+}
+
+fn put_unread_argument(to: Stream, i: usize, error: Error) -> Result<()> {
+    print!(to; "argument {i}")?;
+    put_unread(to, b"", error)
+}
+
+fn put_unwritten(to: Stream, error: Error) -> Result<()> {
+    text(to, b"standard output: cannot be written, ")?;
+    put_reason(to, error)
+}
+
+// ---- lines of people; each function answers how that part of the work ended, whether or not a message could be written
+
 fn refused(o: Output, name: &[u8], r: Refusal) -> u8 {
-    put_refused(o.messages, name, r);
-    text(o.messages, b"\n");
+    let _ = put_refused_line(o.messages, name, r);
     REFUSED
 }
 
-fn unread(o: Output, name: &[u8], error: i32) -> u8 {
-    put_name(o.messages, name);
-    text(o.messages, b": cannot be read, ");
-    put_reason(o.messages, error);
+fn unread(o: Output, name: &[u8], error: Error) -> u8 {
+    let _ = put_unread(o.messages, name, error);
     FAILED
 }
 
 // An argument that no path can be, by its number.
-fn unread_argument(o: Output, i: usize, error: i32) -> u8 {
-    text(o.messages, b"argument ");
-    io::print_decimal(o.messages, i as u64);
-    unread(o, b"", error)
+fn unread_argument(o: Output, i: usize, error: Error) -> u8 {
+    let _ = put_unread_argument(o.messages, i, error);
+    FAILED
 }
 
 // After an answer: whether it could be written.
-fn answered(o: Output, written: bool) -> u8 {
-    if written {
-        return DONE;
+fn answered(o: Output, written: Result<()>) -> u8 {
+    match written {
+        Ok(()) => DONE,
+        Err(error) => {
+            let _ = put_unwritten(o.messages, error);
+            UNWRITTEN
+        }
     }
-    let error = os::errno();
-    text(o.messages, b"standard output: cannot be written, ");
-    put_reason(o.messages, error);
-    UNWRITTEN
 }
 
 // ---- the subcommands
@@ -166,26 +200,27 @@ fn is_option(word: &[u8]) -> bool {
 
 // What `pft` does with the arguments from one number up to another, and how that ended. Of wrong usage it says nothing: the script that
 // starts it has the help.
-pub fn answer(from: usize, to: usize, o: Output) -> u8 {
+pub fn answer(rt: &(impl Env + Files + Input), from: usize, to: usize, o: Output) -> u8 {
     if to <= from {
         return USAGE;
     }
-    let mut word = io::buffer();
-    let n = os::arg(from, &mut word);
-    if check::same(&word[..n], b"type") {
-        return typed::answer(Job::Write, from + 1, to, o);
+    let mut buffer = io::buffer();
+    let n = word(rt, from, &mut buffer);
+    let command = &buffer[..n];
+    if command == b"type".as_slice() {
+        return typed::answer(rt, Job::Write, from + 1, to, o);
     }
-    if check::same(&word[..n], b"list") {
-        return list::answer(from + 1, to, o);
+    if command == b"list".as_slice() {
+        return list::answer(rt, from + 1, to, o);
     }
-    if check::same(&word[..n], b"size") {
-        return size::answer(from + 1, to, o);
+    if command == b"size".as_slice() {
+        return size::answer(rt, from + 1, to, o);
     }
-    if check::same(&word[..n], b"run") {
-        return tree::answer(Job::Over(Work::Run), from + 1, to, o);
+    if command == b"run".as_slice() {
+        return tree::answer(rt, Job::Over(Work::Run), from + 1, to, o);
     }
-    if check::same(&word[..n], b"count") {
-        return tree::answer(Job::Over(Work::Count), from + 1, to, o);
+    if command == b"count".as_slice() {
+        return tree::answer(rt, Job::Over(Work::Count), from + 1, to, o);
     }
     USAGE
 }

@@ -1,23 +1,23 @@
 // `pft list`, and document 01's listing.
 use crate::tree::Job;
-use crate::{Output, REFUSED, answered, refused, tree, worse};
+use crate::{Output, REFUSED, Stream, answered, refused, tree, word, worse};
 use build::BuildResult;
 use error::{Refusal, refusal_number};
 use listing::Form;
+use std::io::{Input, Print, Result};
+use std::rt::{Env, Files};
 
 // ---- a tree file
 
 // How a refusal is told: to people, or as document 01 has it, in the answer's place.
-#[derive(Drop)]
+#[derive(Clone, Copy)]
 pub enum Refusals {
     Said,
     Answered,
 }
 
-fn put_number(fd: i32, r: Refusal) -> bool {
-    io::write_all(fd, b"refused ")
-        && io::print_decimal(fd, refusal_number(r) as u64)
-        && io::write_all(fd, b"\n")
+fn put_number(to: Stream, r: Refusal) -> Result<()> {
+    print!(to; "refused {}\n", refusal_number(r))
 }
 
 fn turned_down(name: &[u8], r: Refusal, told: Refusals, o: Output) -> u8 {
@@ -31,7 +31,7 @@ pub fn with_tree(name: &[u8], tree: &[u8], form: Form, told: Refusals, o: Output
     let mut program = [0u8; 32768];
     match build::build(tree, &mut program) {
         BuildResult::Count(count) => {
-            let written = listing::put_program(o.answers, &program, count as usize, form);
+            let written = listing::put_program(&o.answers, &program, count as usize, form);
             answered(o, written)
         }
         BuildResult::Refused(r) => turned_down(name, r, told, o),
@@ -39,8 +39,8 @@ pub fn with_tree(name: &[u8], tree: &[u8], form: Form, told: Refusals, o: Output
 }
 
 // Document 01's listing of standard input.
-pub fn list_input(o: Output) -> u8 {
-    tree::with_input(Job::List(Form::Numbers, Refusals::Answered), o)
+pub fn list_input(rt: &(impl Env + Files + Input), o: Output) -> u8 {
+    tree::with_input(rt, Job::List(Form::Numbers, Refusals::Answered), o)
 }
 
 // ---- the arguments
@@ -53,35 +53,35 @@ enum Word {
 }
 
 fn word_of(word: &[u8]) -> Word {
-    if check::same(word, b"-d") {
+    if word == b"-d".as_slice() {
         return Word::Form(Form::Words);
     }
-    if check::same(word, b"-dd") {
+    if word == b"-dd".as_slice() {
         return Word::Form(Form::Rows);
     }
-    if check::same(word, b"--bytecode") {
+    if word == b"--bytecode".as_slice() {
         return Word::Form(Form::Bytecode);
     }
     Word::Tree
 }
 
 // The arguments after an option: a tree, or none for standard input.
-fn list_rest(from: usize, to: usize, form: Form, o: Output) -> u8 {
+fn list_rest(rt: &(impl Env + Files + Input), from: usize, to: usize, form: Form, o: Output) -> u8 {
     let job = Job::List(form, Refusals::Said);
     if to <= from {
-        return tree::with_input(job, o);
+        return tree::with_input(rt, job, o);
     }
-    tree::answer(job, from, to, o)
+    tree::answer(rt, job, from, to, o)
 }
 
-pub fn answer(from: usize, to: usize, o: Output) -> u8 {
+pub fn answer(rt: &(impl Env + Files + Input), from: usize, to: usize, o: Output) -> u8 {
     if to <= from {
-        return list_rest(from, to, Form::Numbers, o);
+        return list_rest(rt, from, to, Form::Numbers, o);
     }
-    let mut word = io::buffer();
-    let n = os::arg(from, &mut word);
-    match word_of(&word[..n]) {
-        Word::Form(form) => list_rest(from + 1, to, form, o),
-        Word::Tree => list_rest(from, to, Form::Numbers, o),
+    let mut buffer = io::buffer();
+    let n = word(rt, from, &mut buffer);
+    match word_of(&buffer[..n]) {
+        Word::Form(form) => list_rest(rt, from + 1, to, form, o),
+        Word::Tree => list_rest(rt, from, to, Form::Numbers, o),
     }
 }

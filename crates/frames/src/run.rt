@@ -1,38 +1,37 @@
 // `pft run`: what is answered of a frame file, its verdict and its direct reading.
-use crate::{Output, answered, put_name, refused, text, unread};
+use crate::{Output, Stream, answered, put_name, refused, text, unread};
 use direct::DirectResult;
+use std::io::{Input, Print, Result};
+use std::rt::Files;
 use vm::{Outcome, RunResult, Verdict};
 
-// ---- answers; each function tells whether it could be written
+// ---- answers
 
-fn put_verdict(fd: i32, v: Verdict) -> bool {
+fn put_verdict(to: Stream, v: Verdict) -> Result<()> {
     match v {
-        Verdict::Accepted => text(fd, b"accepted"),
-        Verdict::Dropped => text(fd, b"dropped"),
-        Verdict::Short => text(fd, b"short"),
-        Verdict::Broken => text(fd, b"broken"),
+        Verdict::Accepted => text(to, b"accepted"),
+        Verdict::Dropped => text(to, b"dropped"),
+        Verdict::Short => text(to, b"short"),
+        Verdict::Broken => text(to, b"broken"),
     }
 }
 
-fn put_truth(fd: i32, truth: bool) -> bool {
-    if truth {
-        return text(fd, b", direct reading true\n");
-    }
-    text(fd, b", direct reading false\n")
+fn put_truth(to: Stream, truth: bool) -> Result<()> {
+    print!(to; ", direct reading {truth}\n")
 }
 
-fn put_ran(fd: i32, name: &[u8], outcome: Outcome, truth: bool) -> bool {
-    let verdict = outcome.verdict;
-    put_name(fd, name)
-        && text(fd, b": ")
-        && put_verdict(fd, verdict)
-        && text(fd, b", steps ")
-        && io::print_decimal(fd, outcome.steps as u64)
-        && put_truth(fd, truth)
+fn put_ran(to: Stream, name: &[u8], outcome: Outcome, truth: bool) -> Result<()> {
+    put_name(to, name)?;
+    text(to, b": ")?;
+    put_verdict(to, outcome.verdict)?;
+    print!(to; ", steps {}", outcome.steps)?;
+    put_truth(to, truth)
 }
 
-fn put_not_run(fd: i32, name: &[u8], truth: bool) -> bool {
-    put_name(fd, name) && text(fd, b": not run") && put_truth(fd, truth)
+fn put_not_run(to: Stream, name: &[u8], truth: bool) -> Result<()> {
+    put_name(to, name)?;
+    text(to, b": not run")?;
+    put_truth(to, truth)
 }
 
 // ---- a frame
@@ -56,12 +55,16 @@ fn try_frame(name: &[u8], tree: &[u8], program: &[u8], frame: &[u8], o: Output) 
 }
 
 // A frame has at most 65,535 bytes, so of a longer file 65,536 bytes tell that.
-pub fn try_file(name: &[u8], tree: &[u8], program: &[u8], o: Output) -> u8 {
+pub fn try_file(
+    rt: &(impl Files + Input),
+    name: &[u8],
+    tree: &[u8],
+    program: &[u8],
+    o: Output,
+) -> u8 {
     let mut frame = io::large_buffer();
-    let got = files::read(name, &mut frame);
-    if got.error != 0 {
-        return unread(o, name, got.error);
+    match files::read(rt, name, &mut frame) {
+        Ok(n) => try_frame(name, tree, program, &frame[..n], o),
+        Err(error) => unread(o, name, error),
     }
-    let n = got.count;
-    try_frame(name, tree, program, &frame[..n], o)
 }

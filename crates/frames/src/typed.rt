@@ -1,9 +1,14 @@
 // A line that is typed, in two arguments, its link and its text: its tree, or why it has none.
 ghost use Rattle.std.specs.Prelude.{◌≡◌, length};
 
+use crate::argument::argument;
 use crate::tree::Job;
-use crate::{Output, REFUSED, USAGE, first, over, put_numbered, text, tree, unread_argument};
+use crate::{
+    Output, REFUSED, Stream, USAGE, first, over, put_numbered, text, tree, unread_argument, word,
+};
 use error::Refusal;
+use std::io::{Input, Print, Result};
+use std::rt::{Env, Files};
 use typing::TypeResult;
 
 // Room for the longest argument that Linux passes, 131,071 bytes.
@@ -18,7 +23,7 @@ fn room() -> [u8; ROOM]
 // ---- the link
 
 fn is_either(word: &[u8], number: &[u8], name: &[u8]) -> bool {
-    check::same(word, number) || check::same(word, name)
+    word == number || word == name
 }
 
 // A link's byte in a tree file, by number or name; 0 for another word.
@@ -35,42 +40,44 @@ fn link_of(word: &[u8]) -> u8 {
     0
 }
 
-fn no_link(o: Output, word: &[u8]) -> u8 {
-    text(o.messages, word);
+fn put_no_link(to: Stream, word: &[u8]) -> Result<()> {
+    text(to, word)?;
     text(
-        o.messages,
+        to,
         b": no link; the links are ethernet (1), raw (2) and cooked (3)\n",
-    );
+    )
+}
+
+fn no_link(o: Output, word: &[u8]) -> u8 {
+    let _ = put_no_link(o.messages, word);
     USAGE
 }
 
 // ---- a line that is refused
 
-fn put_line(fd: i32, line: &[u8]) {
-    text(fd, line);
-    text(fd, b"\n");
+fn put_line(to: Stream, line: &[u8]) -> Result<()> {
+    text(to, line)?;
+    text(to, b"\n")
 }
 
 // Under the line a mark, behind so many characters.
-fn put_mark(fd: i32, before: usize) {
+fn put_mark(to: Stream, before: usize) -> Result<()> {
     let spaces = [b' '; 128];
-    text(fd, first(&spaces, before));
-    put_line(fd, b"^");
+    text(to, first(&spaces, before))?;
+    put_line(to, b"^")
 }
 
 // What is said below the line, of a place in it.
-fn put_fault(fd: i32, link: u8, line: &[u8], r: Refusal, place: usize) {
-    put_numbered(fd, r);
-    text(fd, b", at byte ");
-    io::print_decimal(fd, place as u64);
-    text(fd, b"; here could follow: ");
-    hints::put_followers(fd, link, first(line, place));
-    text(fd, b"\n");
+fn put_fault(to: Stream, link: u8, line: &[u8], r: Refusal, place: usize) -> Result<()> {
+    put_numbered(to, r)?;
+    print!(to; ", at byte {place}; here could follow: ")?;
+    hints::put_followers(&to, link, first(line, place))?;
+    text(to, b"\n")
 }
 
-fn put_too_large(fd: i32) {
-    put_numbered(fd, Refusal::TooLarge);
-    put_line(fd, b": over 128 records or over 128 brackets open at once");
+fn put_too_large(to: Stream) -> Result<()> {
+    put_numbered(to, Refusal::TooLarge)?;
+    put_line(to, b": over 128 records or over 128 brackets open at once")
 }
 
 fn is_too_large(r: Refusal) -> bool {
@@ -80,16 +87,19 @@ fn is_too_large(r: Refusal) -> bool {
     }
 }
 
-fn turned_down(link: u8, line: &[u8], r: Refusal, place: usize, o: Output) -> u8 {
+fn put_turned_down(to: Stream, link: u8, line: &[u8], r: Refusal, place: usize) -> Result<()> {
     let mut buffer = io::buffer();
     let shown = hints::show(line, place, &mut buffer);
-    put_line(o.messages, first(&buffer, shown.length));
+    put_line(to, first(&buffer, shown.length))?;
     if is_too_large(r) {
-        put_too_large(o.messages);
-        return REFUSED;
+        return put_too_large(to);
     }
-    put_mark(o.messages, shown.mark);
-    put_fault(o.messages, link, line, r, place);
+    put_mark(to, shown.mark)?;
+    put_fault(to, link, line, r, place)
+}
+
+fn turned_down(link: u8, line: &[u8], r: Refusal, place: usize, o: Output) -> u8 {
+    let _ = put_turned_down(o.messages, link, line, r, place);
     REFUSED
 }
 
@@ -97,10 +107,10 @@ fn turned_down(link: u8, line: &[u8], r: Refusal, place: usize, o: Output) -> u8
 
 // A tree of a line goes by what is shown of the line.
 fn with_tree(
+    rt: &(impl Env + Files + Input),
     job: Job,
     line: &[u8],
-    tree: &[u8; 3080],
-    length: usize,
+    tree: &[u8],
     from: usize,
     to: usize,
     o: Output,
@@ -108,21 +118,39 @@ fn with_tree(
     let mut buffer = io::buffer();
     let shown = hints::show(line, 0, &mut buffer);
     let name = first(&buffer, shown.length);
-    tree::with_tree(job, name, first(tree, length), from, to, o)
+    tree::with_tree(rt, job, name, tree, from, to, o)
+}
+
+fn with_line(
+    rt: &(impl Env + Files + Input),
+    job: Job,
+    link: u8,
+    line: &[u8],
+    from: usize,
+    to: usize,
+    o: Output,
+) -> u8 {
+    let mut tree = [0u8; 3080];
+    match type_line::type_line(link, line, &mut tree) {
+        TypeResult::Length(n) => with_tree(rt, job, line, first(&tree, n), from, to, o),
+        TypeResult::Refused(r, place) => turned_down(link, line, r, place, o),
+    }
 }
 
 // The line that an argument is.
-fn with_line(job: Job, link: u8, i: usize, from: usize, to: usize, o: Output) -> u8 {
+fn with_argument(
+    rt: &(impl Env + Files + Input),
+    job: Job,
+    link: u8,
+    i: usize,
+    from: usize,
+    to: usize,
+    o: Output,
+) -> u8 {
     let mut line = room();
-    let n = os::arg(i, &mut line);
-    let error = os::errno();
-    if error != 0 {
-        return unread_argument(o, i, error);
-    }
-    let mut tree = [0u8; 3080];
-    match type_line::type_line(link, &line[..n], &mut tree) {
-        TypeResult::Length(length) => with_tree(job, &line[..n], &tree, length, from, to, o),
-        TypeResult::Refused(r, place) => turned_down(link, &line[..n], r, place, o),
+    match argument(rt, i, &mut line) {
+        Ok(n) => with_line(rt, job, link, &line[..n], from, to, o),
+        Err(error) => unread_argument(o, i, error),
     }
 }
 
@@ -131,13 +159,13 @@ fn with_line(job: Job, link: u8, i: usize, from: usize, to: usize, o: Output) ->
 // Words behind the line may be its own.
 fn misfit(files: usize, to: usize, o: Output) -> u8 {
     if files < to {
-        put_line(o.messages, b"the line is one argument: put it in quotes");
+        let _ = put_line(o.messages, b"the line is one argument: put it in quotes");
     }
     USAGE
 }
 
 // A link, a line, and the job's files.
-pub fn answer(job: Job, from: usize, to: usize, o: Output) -> u8 {
+pub fn answer(rt: &(impl Env + Files + Input), job: Job, from: usize, to: usize, o: Output) -> u8 {
     if to <= from {
         return USAGE;
     }
@@ -148,14 +176,15 @@ pub fn answer(job: Job, from: usize, to: usize, o: Output) -> u8 {
     if !tree::takes_files(job, files, to) {
         return misfit(files, to, o);
     }
-    let mut word = io::buffer();
-    let n = os::arg(from, &mut word);
-    let link = link_of(&word[..n]);
+    let mut buffer = io::buffer();
+    let n = word(rt, from, &mut buffer);
+    let name = &buffer[..n];
+    let link = link_of(name);
     if link == 0 {
-        return no_link(o, &word[..n]);
+        return no_link(o, name);
     }
-    if over::names_input_twice(files, to) {
+    if over::names_input_twice(rt, files, to) {
         return over::named_twice(o);
     }
-    with_line(job, link, from + 1, files, to, o)
+    with_argument(rt, job, link, from + 1, files, to, o)
 }

@@ -4,6 +4,7 @@ ghost use Rattle.std.specs.Prelude.{◌≡◌, ◌≤◌, length};
 
 use crate::put;
 use error::Refusal;
+use std::io::{Print, Result};
 use typing::TypeResult;
 
 // The words in the order in which they are told, then an address and a port number.
@@ -64,36 +65,30 @@ fn follows(link: u8, line: &mut [u8], n: usize, candidate: &[u8]) -> bool
 
 // ---- what is told
 
-fn text(fd: i32, s: &[u8]) {
-    io::write_all(fd, s);
-}
-
 // A word, behind others or alone.
-fn put_word(fd: i32, word: &[u8], others: bool) {
+fn put_word<P: Print>(to: &P, word: &[u8], others: bool) -> Result<()> {
     if others {
-        text(fd, b" ");
+        to.write_all(b" ")?;
     }
-    text(fd, word);
+    to.write_all(word)
 }
 
 // What is told in several words stands behind a comma.
-fn put_phrase(fd: i32, phrase: &[u8], others: bool) {
+fn put_phrase<P: Print>(to: &P, phrase: &[u8], others: bool) -> Result<()> {
     if others {
-        text(fd, b",");
+        to.write_all(b",")?;
     }
-    put_word(fd, phrase, others);
+    put_word(to, phrase, others)
 }
 
-fn put_candidate(fd: i32, candidate: &[u8], others: bool) {
-    if check::same(candidate, b"0.0.0.0") {
-        put_phrase(fd, b"an address", others);
-        return;
+fn put_candidate<P: Print>(to: &P, candidate: &[u8], others: bool) -> Result<()> {
+    if candidate == b"0.0.0.0".as_slice() {
+        return put_phrase(to, b"an address", others);
     }
-    if check::same(candidate, b"0") {
-        put_phrase(fd, b"a port number", others);
-        return;
+    if candidate == b"0".as_slice() {
+        return put_phrase(to, b"a port number", others);
     }
-    put_word(fd, candidate, others);
+    put_word(to, candidate, others)
 }
 
 // Where the word at a place ends.
@@ -112,32 +107,39 @@ fn word_end(words: &[u8], from: usize) -> usize
 }
 
 // Those of several candidates that can follow the first n bytes of a line, and whether there are any.
-fn put_candidates(fd: i32, link: u8, line: &mut [u8], n: usize, candidates: &[u8]) -> bool
+fn put_candidates<P: Print>(
+    to: &P,
+    link: u8,
+    line: &mut [u8],
+    n: usize,
+    candidates: &[u8],
+) -> Result<bool>
     requires { n ≤ length line.old }
 {
     let mut others = false;
     let mut from = 0;
     while from < candidates.len() {
-        let to = word_end(candidates, from);
-        if follows(link, line, n, &candidates[from..to]) {
-            put_candidate(fd, &candidates[from..to], others);
+        let end = word_end(candidates, from);
+        if follows(link, line, n, &candidates[from..end]) {
+            put_candidate(to, &candidates[from..end], others)?;
             others = true;
         }
-        from = to + 1;
+        from = end + 1;
     }
-    others
+    Ok(others)
 }
 
-fn put_end(fd: i32, link: u8, start: &[u8], others: bool) {
+fn put_end<P: Print>(to: &P, link: u8, start: &[u8], others: bool) -> Result<()> {
     if may_end(link, start) {
-        put_phrase(fd, b"the end", others);
+        put_phrase(to, b"the end", others)?;
     }
+    Ok(())
 }
 
 // What could follow the start of a line.
-pub fn put_followers(fd: i32, link: u8, start: &[u8]) {
+pub fn put_followers<P: Print>(to: &P, link: u8, start: &[u8]) -> Result<()> {
     let mut line = room();
     let n = put(&mut line, 0, start);
-    let others = put_candidates(fd, link, &mut line, n, &CANDIDATES);
-    put_end(fd, link, start, others);
+    let others = put_candidates(to, link, &mut line, n, &CANDIDATES)?;
+    put_end(to, link, start, others)
 }

@@ -1,5 +1,6 @@
 // What is said of a typed line that is refused: the line with a mark under the place, and what could stand there.
 #![tactic(auto)]
+
 mod characters;
 mod follow;
 mod row;
