@@ -107,11 +107,6 @@ fn finished(p: Progress) -> Counted
     Counted::Read(capture::finish(stage, tally, p.left))
 }
 
-// What is said of a pipe that gives more than a file can have.
-fn too_long() -> Counted {
-    Counted::Failed(Error::from_raw_os_error(errno::EFBIG))
-}
-
 // Reads a capture to its end or to a refusal.
 pub fn count<R: Read>(reader: &mut R, program: &[u8], link: LinkType, buffer: &mut [u8]) -> Counted
     requires { (65551 ≤ length buffer.old) × (length buffer.old ≤ 2 ^ 62) }
@@ -125,7 +120,7 @@ pub fn count<R: Read>(reader: &mut R, program: &[u8], link: LinkType, buffer: &m
         }
         let tally = p.tally;
         if MOST < tally.stop {
-            return too_long();
+            return Counted::Failed(Error::from_raw_os_error(errno::EFBIG));
         }
         let left = p.left;
         match read_from(reader, buffer, left) {
