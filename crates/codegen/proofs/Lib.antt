@@ -11,6 +11,7 @@ pub mod Prologue
 pub mod Conditions
 pub mod Joins
 pub mod Tells
+pub mod Segment
 pub mod Nets6
 pub mod Shape
 pub mod Sound

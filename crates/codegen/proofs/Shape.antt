@@ -34,7 +34,7 @@ use Rattle.codegen.specs.Guards.{guards, set_of, primitive_guards, required_guar
 use Rattle.codegen.specs.Block.{half, jeq, Side, success, failure, leave, jt, test}
 use Rattle.codegen.specs.Block.{Block, settle, turn, otherwise}
 use Rattle.codegen.specs.Emit.{net_offset, ether_proto_offset, is_raw, Code, code, need, check, check_loads, check_blocks, check_ip6_addr, mask16, check_net6, check_range, check_mac, l4_set_check, l4_check, header4, header6, fork, dual_path, Prologue, version, dual, emit_ethertype, guarded, emit_l4, emit_ip4_l4, emit_ip6_l4, emit_row, port_prereqs, ported, turned, by_link, no_address, sender, ether, emit_primitive, hoist_known, hoist_ports, or_hoist, emit, restored_after}
-use Rattle.codegen.proofs.Nets6.{net_none}
+use Rattle.codegen.proofs.Segment.{net_none}
 use Rattle.codegen.proofs.Semantics.{length_settle}
 use Rattle.codegen.proofs.KnownLaws.{Says, SaysPorts, says_ready, GuardsSay, union_says, intersect_left}
 use Rattle.codegen.proofs.Conditions.{by_link_lem}

@@ -10,7 +10,7 @@ use lib.ListN.{length, get_or}
 use lib.Pow.{pow-add, pow_pos, pow_mono, shl-shr}
 use Rattle.codegen.specs.Emit.{mask16}
 use Rattle.codegen.specs.Nets6.{tabulate, mask_of, masks, under, expected}
-use Rattle.codegen.proofs.Nets6.{mask_none, mask_full}
+use Rattle.codegen.proofs.Segment.{mask_none, mask_full}
 use Rattle.nets.specs.Masks.{mask_at}
 
 -- ---- the mask of a segment's first p bits, by a shift

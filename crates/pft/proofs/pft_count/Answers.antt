@@ -1,10 +1,8 @@
-use Rattle.count.specs.Count.{count}
 use Rattle.count.proofs.Answers.{count_small}
 use Rattle.capture.specs.Counting.{frames_in}
 use lib.ListN.{length}
 use mathlib.Core.Path.{ap, sym, ◌∙◌}
 use native.Mathlib.Omega.{arith}
-use native.Mathlib.Nat.{zero-add}
 use Rattle.pft.proofs.pft_count.Goals as goal
 
 pub beside-requires : goal.beside-requires

@@ -1,5 +1,5 @@
 use native.Mathlib.Omega.{arith}
-use Rattle.pft.proofs.Numbers.{beyond_of, run_steps}
+use Rattle.pft.proofs.Numbers.{run_steps}
 use Rattle.pft.proofs.pft_run.Goals as goal
 
 pub overflow_add-result : goal.overflow_add-result
