@@ -279,27 +279,26 @@ fn case_of(h: &[u8; 5]) -> Case
 }
 
 // Reads to the front of a buffer, until it is full or the input ends, and answers how many bytes came.
-fn read_full<R: Read>(input: &mut R, buffer: &mut [u8]) -> io::Result<usize>
-    ensures { IfOk result (λ n. n ≤ length buffer.new) }
+fn read_full<R: Read>(input: &mut R, buffer: &mut [u8]) -> usize
+    ensures { result ≤ length buffer.new }
 {
     let mut done = 0;
     while done < buffer.len() {
-        let n = input.read(&mut buffer[done..])?;
-        if n == 0 {
-            break;
+        match input.read(&mut buffer[done..]) {
+            Ok(0) | Err(_) => break,
+            Ok(n) => done += n,
         }
-        done += n;
     }
-    Ok(done)
+    done
 }
 
 // Reads so many bytes to the front of a buffer. False: it is too small, or the input ends.
-fn fill<R: Read>(input: &mut R, buffer: &mut [u8], n: usize) -> io::Result<bool> {
+fn fill<R: Read>(input: &mut R, buffer: &mut [u8], n: usize) -> bool {
     if buffer.len() < n {
-        return Ok(false);
+        return false;
     }
-    let got = read_full(input, &mut buffer[0..n])?;
-    Ok(got == n)
+    let got = read_full(input, &mut buffer[0..n]);
+    got == n
 }
 
 // The first n bytes.
@@ -326,14 +325,14 @@ fn replay<R: Read, W: Write>(
     tally: &mut Tally,
 ) -> io::Result<()> {
     let mut head = [0u8; 5];
-    if !fill(input, &mut head, 5)? {
+    if !fill(input, &mut head, 5) {
         return unread(out, group, index, tally);
     }
     let c = case_of(&head);
     let mut file = [0u8; 4096];
     let mut program = [0u8; 32768];
     let length = 8 * c.count as usize;
-    if !fill(input, &mut file, c.file)? || !fill(input, &mut program, length)? {
+    if !fill(input, &mut file, c.file) || !fill(input, &mut program, length) {
         return unread(out, group, index, tally);
     }
     if try_lengths(
@@ -372,7 +371,7 @@ fn replay_group<R: Read, W: Write>(
     tally: &mut Tally,
 ) -> io::Result<()> {
     let mut head = [0u8; 2];
-    read_full(input, &mut head)?;
+    read_full(input, &mut head);
     let count = half(head[0], head[1]) as usize;
     replay_cases(input, out, group, count, tally)?;
     text(out, group)?;

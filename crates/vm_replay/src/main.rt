@@ -120,31 +120,30 @@ fn case_of(h: &[u8; 12]) -> Case {
 }
 
 // Reads to the front of a buffer, until it is full or the input ends, and answers how many bytes came.
-fn read_full<R: Read>(input: &mut R, buffer: &mut [u8]) -> io::Result<usize>
-    ensures { IfOk result (λ n. n ≤ length buffer.new) }
+fn read_full<R: Read>(input: &mut R, buffer: &mut [u8]) -> usize
+    ensures { result ≤ length buffer.new }
 {
     let mut done = 0;
     while done < buffer.len() {
-        let n = input.read(&mut buffer[done..])?;
-        if n == 0 {
-            break;
+        match input.read(&mut buffer[done..]) {
+            Ok(0) | Err(_) => break,
+            Ok(n) => done += n,
         }
-        done += n;
     }
-    Ok(done)
+    done
 }
 
 // Reads the stored bytes to the front of a buffer of zeros. False: the buffer is too small, or the input ends.
-fn fill<R: Read>(input: &mut R, buffer: &mut [u8], size: Size) -> io::Result<bool> {
+fn fill<R: Read>(input: &mut R, buffer: &mut [u8], size: Size) -> bool {
     let n = size.stored;
     if buffer.len() < size.length {
-        return Ok(false);
+        return false;
     }
     if buffer.len() < n {
-        return Ok(false);
+        return false;
     }
-    let got = read_full(input, &mut buffer[0..n])?;
-    Ok(got == n)
+    let got = read_full(input, &mut buffer[0..n]);
+    got == n
 }
 
 // The first n bytes.
@@ -166,17 +165,17 @@ fn unread() -> Said {
     }
 }
 
-fn run_case<R: Read>(input: &mut R, program: Size, frame: Size) -> io::Result<Said> {
+fn run_case<R: Read>(input: &mut R, program: Size, frame: Size) -> Said {
     let mut p = [0u8; 65600];
-    if !fill(input, &mut p, program)? {
-        return Ok(unread());
+    if !fill(input, &mut p, program) {
+        return unread();
     }
     let mut f = [0u8; 65600];
-    if !fill(input, &mut f, frame)? {
-        return Ok(unread());
+    if !fill(input, &mut f, frame) {
+        return unread();
     }
     let result = machine::run(first(&p, program.length), first(&f, frame.length));
-    Ok(said_of(result))
+    said_of(result)
 }
 
 // ---- the output
@@ -234,12 +233,12 @@ fn replay<R: Read, W: Write>(
     index: u64,
 ) -> io::Result<bool> {
     let mut head = [0u8; 12];
-    let got = read_full(input, &mut head)?;
+    let got = read_full(input, &mut head);
     if got < 12 {
         return Ok(false);
     }
     let c = case_of(&head);
-    let here = run_case(input, c.program, c.frame)?;
+    let here = run_case(input, c.program, c.frame);
     if same(here, c.said) {
         return Ok(true);
     }
@@ -270,7 +269,7 @@ fn replay_group<R: Read, W: Write>(input: &mut R, out: &mut W, group: &[u8]) -> 
     ensures differences { IfOk result (λ t. t.differences < 65536) }
 {
     let mut count = [0u8; 2];
-    read_full(input, &mut count)?;
+    read_full(input, &mut count);
     let runs = half(count[0], count[1]) as u64;
     let t = Tally {
         runs: runs,
