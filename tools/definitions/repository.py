@@ -48,9 +48,8 @@ def packed(rows, weight):
 
 
 def refused_parts(text):
-    """The crate and number of each theorem that antt did not admit."""
-    found = re.findall(r"crates/(rows\d+)/specs/Table\.antt:\d+:\d+: error: `p(\d+)`", text)
-    return {(crate, int(number)) for crate, number in found}
+    """The number of each theorem that antt did not admit."""
+    return {int(number) for number in re.findall(r"specs/Table\.antt:\d+:\d+: error: `p(\d+)`", text)}
 
 
 # ── Copies ───────────────────────────────────────────────────────────────────
@@ -64,14 +63,15 @@ def types_only(text):
         if inside:
             kept.append(line)
             inside = line[:1] not in ("}", "]", ")")
-        elif re.match(r"(pub )?(enum|struct|const|type|mod) ", line):
+        elif re.match(r"(pub )?(enum|struct|const|type|mod) |#\[derive", line):
             kept.append(line)
-            inside = line.rstrip()[-1:] not in (";", "}")
+            inside = line.rstrip()[-1:] not in (";", "}", "]")
         elif line.startswith("use "):
-            uses.append(line)
+            path, names = re.fullmatch(r"use (.*)::\{?([\w, ]+)\}?;", line).groups()
+            uses += [(f"use {path}::{name};", name) for name in names.split(", ")]
     body = "\n".join(kept)
     named = set(re.findall(r"\w+", body))
-    return "\n".join([u for u in uses if re.findall(r"\w+", u)[-1] in named] + [body, ""])
+    return "\n".join(["#![tactic(auto)]", *(use for use, name in uses if name in named), body, ""])
 
 
 def listed_crates():
@@ -131,7 +131,7 @@ class Repository:
         shutil.rmtree(folder, ignore_errors=True)
         (folder / "src").mkdir(parents=True)
         (folder / "specs").mkdir()
-        (folder / "src" / "lib.rt").write_text("// No code: all is in specs/.\n")
+        (folder / "src" / "lib.rt").write_text("// No code: all is in specs/.\n#![tactic(auto)]\n")
         (folder / "specs" / "Lib.antt").write_text("".join(f"pub mod {m}\n" for m in specs))
         for module, text in specs.items():
             (folder / "specs" / f"{module}.antt").write_text(text)
@@ -165,17 +165,18 @@ class Repository:
                 for name in re.findall(r"^ *unfoldable pub (\S+) :", path.read_text(), re.M):
                     # shut where the quick form is computed, so that both sides are not
                     if not (self.quick and crate == "tables" and name in ("all", "none", "holds")):
-                        names.append(f"Rattle·{crate}.specs.{path.stem}.{name}")
+                        names.append(f"Rattle.{crate}.specs.{path.stem}.{name}")
         return " ".join(names)
 
-    def check(self, *words):
-        done = subprocess.run(["rt", "check", *words], cwd=self.folder, capture_output=True, text=True)
+    def check(self, crate):
+        folder = self.folder / "crates" / crate
+        done = subprocess.run(["rt", "check"], cwd=folder, capture_output=True, text=True)
         text = done.stdout + done.stderr
-        return done.returncode == 0 and bool(re.search(r"^rt: ok, ", text, re.M)), text
+        return done.returncode == 0 and bool(re.search(r"^logic=proved ", text, re.M)), text
 
     def theorem(self, i, part):
         rows = "\n    ∷ ".join(row.text for row in part.rows)
-        test, law = ("all", "all-hold") if part.hold else ("none", "none-holds")
+        test, law = ("all", "all_hold") if part.hold else ("none", "none_holds")
         proof = f"{law} rows{i} tt" if self.quick else "tt"
         return (
             f"\nrows{i} : List Row\nrows{i} =\n    {rows}\n    ∷ []\n"
@@ -183,11 +184,10 @@ class Repository:
         )
 
     def table(self, parts):
-        quick = "use Rattle·tables.specs.Quick.{all-hold, none-holds}\n" if self.quick else ""
+        quick = "use Rattle.tables.specs.Quick.{all_hold, none_holds}\n" if self.quick else ""
         return (
-            "use lib.Dec.{T}\n"
-            "use mathlib.Core.List.{List, [], _∷_}\n"
-            "use Rattle·tables.specs.Rows.{Row, builds, runs, reads, counts, frames, questions, loads, onto, all, none}\n"
+            "use Rattle.std.specs.Prelude.{T, List, [], ◌∷◌}\n"
+            "use Rattle.tables.specs.Rows.{Row, builds, runs, reads, counts, frames, questions, loads, onto, all, none}\n"
             + quick
             + "".join(self.theorem(i, part) for i, part in enumerate(parts))
         )
@@ -207,20 +207,24 @@ class Repository:
         lines = [self.write(name, parts) for name, parts in crates.items()]
         (self.folder / "crates.txt").write_text(self.listed + "".join(lines))
         given_up = []
+        for name in crates:
+            crates[name] = self.settled(name, crates[name], given_up)
+        return [row for parts in crates.values() for p in parts if not p.hold for row in p.rows], given_up
+
+    def settled(self, name, parts, given_up):
+        """The same for the parts of a crate."""
         while True:
-            done, text = self.check()
+            done, text = self.check(name)
             if done:
-                differ = [row for parts in crates.values() for p in parts if not p.hold for row in p.rows]
-                return differ, given_up
+                return parts
             bad = refused_parts(text)
             if not bad:
                 stop(f"the tables are not admitted:\n{text}")
-            for name in {name for name, _ in bad}:
-                parts = []
-                for i, part in enumerate(crates[name]):
-                    again = part.retried() if (name, i) in bad else [part]
-                    parts += again
-                    if not again:
-                        given_up += part.rows
-                crates[name] = parts
-                self.write(name, parts)
+            tried = []
+            for i, part in enumerate(parts):
+                again = part.retried() if i in bad else [part]
+                tried += again
+                if not again:
+                    given_up += part.rows
+            parts = tried
+            self.write(name, parts)
