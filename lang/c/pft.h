@@ -2,7 +2,7 @@
  * pft.h: classic BPF programs made from typed lines and tree files, and their runs over frames and
  * captures.
  *
- * Link with libpft.a, which `rt staticlib pft` writes to target/staticlib:
+ * Link with libpft.a, which `tools/library` writes to target/staticlib:
  *
  *     cc -I lang/c program.c target/staticlib/libpft.a
  *

@@ -1,5 +1,5 @@
 //! Tells rustc where libpft.a is: in the folder that PFT_LIB_DIR names, or else
-//! where `rt staticlib pft` writes it, in target/staticlib of the repository.
+//! where `tools/library` writes it, in target/staticlib of the repository.
 
 use std::path::{Path, PathBuf};
 
@@ -29,13 +29,13 @@ fn names(archive: &[u8], symbol: &str) -> bool {
 fn fault(archive: &Path) -> Option<String> {
     let Ok(bytes) = std::fs::read(archive) else {
         return Some(
-            "cannot be read: make it by `rt staticlib pft`, or set PFT_LIB_DIR to its folder"
+            "cannot be read: make it by `tools/library`, or set PFT_LIB_DIR to its folder"
                 .to_string(),
         );
     };
     let lacking = ADDED.into_iter().find(|symbol| !names(&bytes, symbol))?;
     Some(format!(
-        "is too old: it has no {lacking}. Make it anew by `rt staticlib pft`"
+        "is too old: it has no {lacking}. Make it anew by `tools/library`"
     ))
 }
 

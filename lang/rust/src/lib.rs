@@ -43,7 +43,7 @@
 //! # Linking
 //!
 //! The build looks for `libpft.a` in the folder that the variable `PFT_LIB_DIR` names, or else in
-//! `target/staticlib` of the repository, where `rt staticlib pft` writes it. It is for x86-64.
+//! `target/staticlib` of the repository, where `tools/library` writes it. It is for x86-64.
 //! An archive that is older than this crate is an [`Error::OldArchive`]; one that is newer serves,
 //! and a number of its own is an error, never a panic.
 //!
