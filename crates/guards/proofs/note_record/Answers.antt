@@ -33,7 +33,7 @@ unfolding required_guards
 returns-in-3 c =
     let p = here_not c.requires.here (kind_is c.args.tree.now c.args.i c.byte_at-kind.ensures c.in-3.is) in
     let e = (c.requires.noted.note (c.args.i + 1) (omega arith) p.part.within).ends in
-    noted_next c.requires c.note.ensures (c.no_guards-none.ensures ∙ sym (ap required_guards p.tree)) (c.noted_end-end.ensures ∙ e ∙ sym p.end)
+    noted_next c.requires c.note.ensures (let tree = ap required_guards p.tree in cc) (c.noted_end-end.ensures ∙ e ∙ sym p.end)
 
 pub returns-in_default : goal.returns-in_default
 unfolding required_guards
