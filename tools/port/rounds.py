@@ -32,7 +32,6 @@ def main():
         check("--generated", names, "--old-names")
         table = json.load(open(f"{names}/names.json")) if os.path.exists(f"{names}/names.json") else {}
         text = check()
-        open(f"/tmp/round-{crate}.log", "w").write(text)
         progress = False
         for line in text.split("\n"):
             m = re.match(rf"fn {crate}::(\S+): no proof: (.*)", line)
