@@ -27,8 +27,7 @@ fn truth(b: bool) -> u32
 }
 
 // The number of this interface.
-#[unsafe(no_mangle)]
-pub extern "C" fn pft_version() -> u32
+pub fn pft_version() -> u32
     ensures { result ≡ version }
 {
     VERSION
@@ -45,32 +44,28 @@ fn build_number(res: BuildResult) -> u32
 }
 
 // The build of a tree file into a lent buffer, as one number.
-#[unsafe(no_mangle)]
-pub extern "C" fn pft_build(tree: &[u8], program: &mut [u8]) -> u32
+pub fn pft_build(tree: &[u8], program: &mut [u8]) -> u32
     ensures { (result ≡ build_number (build tree.now (length program.old)).answer) × (program.new ≡ (build tree.now (length program.old)).buffer) }
 {
     build_number(build::build(tree, program))
 }
 
 // The count or refusal of a tree file, as one number.
-#[unsafe(no_mangle)]
-pub extern "C" fn pft_question(tree: &[u8]) -> u32
+pub fn pft_question(tree: &[u8]) -> u32
     ensures { result ≡ build_number (question tree.now) }
 {
     build_number(build::question(tree))
 }
 
 // The build of a tree file that still has this count, as one number.
-#[unsafe(no_mangle)]
-pub extern "C" fn pft_load(tree: &[u8], count: u32, program: &mut [u8]) -> u32
+pub fn pft_load(tree: &[u8], count: u32, program: &mut [u8]) -> u32
     ensures { (result ≡ build_number (load tree.now count (length program.old)).answer) × (program.new ≡ (load tree.now count (length program.old)).buffer) }
 {
     build_number(build::load(tree, count, program))
 }
 
 // The direct reading of a tree file on a frame, as one number.
-#[unsafe(no_mangle)]
-pub extern "C" fn pft_direct(tree: &[u8], frame: &[u8]) -> u32
+pub fn pft_direct(tree: &[u8], frame: &[u8]) -> u32
     ensures { result ≡ direct_number (direct tree.now frame.now) }
 {
     match evaluate::direct_reading(tree, frame) {
@@ -80,8 +75,7 @@ pub extern "C" fn pft_direct(tree: &[u8], frame: &[u8]) -> u32
 }
 
 // The run of a program over a frame, as one number.
-#[unsafe(no_mangle)]
-pub extern "C" fn pft_run(program: &[u8], frame: &[u8]) -> u32
+pub fn pft_run(program: &[u8], frame: &[u8]) -> u32
     ensures { result ≡ run_number (M.run program.now frame.now) }
 {
     let result = machine::run(program, frame);
@@ -103,8 +97,7 @@ fn beside(refusal: Refusal, n: u64) -> u64
 }
 
 // The count of a capture's frames that a tree file's program accepts, as one number.
-#[unsafe(no_mangle)]
-pub extern "C" fn pft_count(tree: &[u8], program: &mut [u8], capture: &[u8]) -> u64
+pub fn pft_count(tree: &[u8], program: &mut [u8], capture: &[u8]) -> u64
     ensures { (result ≡ count_number (count tree.now (length program.old) capture.now).answer) × (program.new ≡ (count tree.now (length program.old) capture.now).buffer) }
 {
     match count::count(tree, program, capture) {
@@ -114,8 +107,7 @@ pub extern "C" fn pft_count(tree: &[u8], program: &mut [u8], capture: &[u8]) -> 
 }
 
 // The captured length of the frame whose header stands at a place of a capture, as one number.
-#[unsafe(no_mangle)]
-pub extern "C" fn pft_frame(capture: &[u8], at: usize) -> u64
+pub fn pft_frame(capture: &[u8], at: usize) -> u64
     ensures { result ≡ frame_number (frame_at capture.now at) }
 {
     match capture::frame_at(capture, at) {
@@ -125,8 +117,7 @@ pub extern "C" fn pft_frame(capture: &[u8], at: usize) -> u64
 }
 
 // The tree file of a typed line in 3,080 lent bytes, as one number.
-#[unsafe(no_mangle)]
-pub extern "C" fn pft_type(link: u8, text: &[u8], tree: &mut [u8; 3080]) -> u64
+pub fn pft_type(link: u8, text: &[u8], tree: &mut [u8; 3080]) -> u64
     ensures { (result ≡ type_number (typed link text.now).answer) × (tree.new ≡ (typed link text.now).tree) }
 {
     match type_line::type_line(link, text, tree) {
