@@ -84,6 +84,9 @@ def try_input(tally):
     tally.expect("list of nothing", shell("bin/pft list < /dev/null"), ("", strange, 1))
     tally.expect("size of nothing", shell("bin/pft size - < /dev/null"), ("", strange, 1))
     tally.expect("pft-list of nothing", shell("bin/pft-list < /dev/null"), ("refused 1\n", "", 1))
+    other = ": cannot be read, its name is not UTF-8\n"
+    line = 'bin/pft size "$(printf "\\377")" 2>&1 | tr -d "\\377"'
+    tally.expect("size of a name that is not UTF-8", shell(line), (other, "", 0))
     frame = f"standard input: {ACCEPTED}\n"
     tally.expect("run TREE -", shell('bin/pft run "$1" - < "$2"', WEB, GOOD), (frame, "", 0))
     tally.expect("run - FRAME", shell('bin/pft run - "$2" < "$1"', WEB, GOOD), (f"{GOOD}: {ACCEPTED}\n", "", 0))
