@@ -1,18 +1,21 @@
 -- The numbers of a file's tree keep the bounds that their bytes give them, and its records are at most 128.
+use Rattle.std.specs.Prelude.{Ok}
 use Prim.Native.Nat.{ℕ, zero, suc, ◌+◌, ◌-◌, ◌≤◌}
 use mathlib.Core.Path.{◌≡◌}
 use mathlib.Core.List.{List, [], ◌∷◌, ◌++◌, append-nil}
 use native.Mathlib.Omega.{arith}
 use lib.ListN.{length, get_or, take}
 use lib.Dec.{eqb}
-use Rattle.error.specs.Answer.{done}
 use Rattle.error.proofs.All.{All, all_bind, all_cond}
 use Rattle.bpf.specs.Bytes.{be, AreBytes, bytes_at, segments_at}
 use Rattle.bpf.proofs.Bytes.{be_small}
 use Rattle.bpf.proofs.Parts.{length_bytes, length_segments, bytes_are_lem, segments_small, take_bytes}
 use Rattle.bpf.specs.Program.{Each}
-use Rattle.ast.specs.Tree.{Ip, Expr, Leaf, And, Or, Not, records}
-use Rattle.ast.specs.Record.{Record, record_at, protos, proto_of, Node, AndNode, OrNode, NotNode, LeafNode, Kind, kinds, good, node_by, node_at}
+use Rattle.ast.specs.declared.Proto.TheVariants.{Ip}
+use Rattle.ast.specs.Tree.{Expr, Leaf, And, Or, Not, records}
+use Rattle.ast.specs.declared.Node.{Node}
+use Rattle.ast.specs.declared.Node.TheVariants.{AndNode, OrNode, NotNode, LeafNode}
+use Rattle.ast.specs.Record.{Record, record_at, protos, proto_of, Kind, kinds, good, node_by, node_at}
 use Rattle.ast.specs.File.{header, count_of, nodes_at, Filter, parse}
 use Rattle.ast.proofs.Proper.{Byte, Half, Word, ProperProto, ProperPrimitive, Proper}
 use Rattle.ast.proofs.Prefix.{prefix}
@@ -116,10 +119,10 @@ prefix_proper (And l r) h = let k = every_append ProperNode (prefix l) (prefix r
 prefix_proper (Or l r) h = let k = every_append ProperNode (prefix l) (prefix r) h.1 in (prefix_proper l k.0, prefix_proper r k.1)
 prefix_proper (Not t) h = prefix_proper t h.1
 
-pub parse_header : (s : List ℕ) (f : Filter) → parse s ≡ done f → header s ≡ done f.link
+pub parse_header : (s : List ℕ) (f : Filter) → parse s ≡ Ok f → header s ≡ Ok f.link
 parse_header s f e = (parsed s f e).head
 
-pub parse_proper : (s : List ℕ) → AreBytes s → (f : Filter) → parse s ≡ done f → Proper f.tree × (records f.tree ≤ 128)
+pub parse_proper : (s : List ℕ) → AreBytes s → (f : Filter) → parse s ≡ Ok f → Proper f.tree × (records f.tree ≤ 128)
 parse_proper s bytes f e =
     let k = parsed s f e in (
       prefix_proper f.tree (rw (k.tree.nodes, append-nil) at (nodes_proper s bytes (count_of s) 8)),

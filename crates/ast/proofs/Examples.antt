@@ -1,17 +1,20 @@
 -- Small tree files, and what `parse` answers to each: one table, one theorem.
+use Rattle.std.specs.Prelude.{None, Some}
+use Rattle.std.specs.Prelude.{Ok, Err}
 use Prim.Native.Nat.{ℕ, zero, suc, ◌/◌, ◌%◌}
 use mathlib.Core.Path.{◌≡◌, refl}
 use mathlib.Core.List.{List, [], ◌∷◌, ◌++◌, map}
 use mathlib.Core.Bool.{cond}
-use mathlib.Core.Option.{none, some}
 use lib.ListN.{length, take, set, replicate}
-use Rattle.error.specs.Answer.{Out, refused, done, number_of}
+use Rattle.error.specs.Answer.{Out, number_of}
 use Rattle.bpf.specs.Bytes.{be, bytes_at, segments_at}
 use Rattle.ast.specs.declared.LinkType.{LinkType}
 use Rattle.ast.specs.declared.LinkType.TheVariants.{Ethernet, RawIp, LinuxSll}
 use Rattle.ast.specs.declared.Dir.TheVariants.{SrcOrDst, Src, Dst, SrcAndDst}
-use Rattle.ast.specs.Tree.{Proto, Ip, Ip6, Arp, Rarp, Tcp, Udp, Icmp, Icmp6, Igmp, Sctp, Num, Ip6Proto}
-use Rattle.ast.specs.Tree.{Primitive, Protocol, Host4, Host6, Net, Net6, Port, PortRange, EtherHost, EtherProto, EtherMulticast, IpBroadcast, IpMulticast, Ip6Multicast, IpProtoChain, Ip6ProtoChain}
+use Rattle.ast.specs.declared.Proto.{Proto}
+use Rattle.ast.specs.declared.Proto.TheVariants.{Ip, Ip6, Arp, Rarp, Tcp, Udp, Icmp, Icmp6, Igmp, Sctp, Num, Ip6Proto}
+use Rattle.ast.specs.declared.Primitive.{Primitive}
+use Rattle.ast.specs.declared.Primitive.TheVariants.{Protocol, Host4, Host6, Net, Net6, Port, PortRange, EtherHost, EtherProto, EtherMulticast, IpBroadcast, IpMulticast, Ip6Multicast, IpProtoChain, Ip6ProtoChain}
 use Rattle.ast.specs.Tree.{Expr, Leaf, And, Or, Not}
 use Rattle.ast.specs.Record.{record_at, good, node_by, member}
 use Rattle.ast.specs.File.{header, count, nodes_at, grow, trees_of, Filter, parse}
@@ -60,10 +63,10 @@ data Answer : Type 0 where
 
 -- an answer as a row looks at it
 seen : Answer → Out Filter → Answer
-seen a (refused r) = refusal (number_of r)
-seen (refusal n) (done f) = passes
-seen (gives l t) (done f) = gives f.link f.tree
-seen passes (done f) = passes
+seen a (Err r) = refusal (number_of r)
+seen (refusal n) (Ok f) = passes
+seen (gives l t) (Ok f) = gives f.link f.tree
+seen passes (Ok f) = passes
 
 abbrev Row : Type 0
 Row = List ℕ × Answer
@@ -136,9 +139,9 @@ rows =
     ∷ (one (proto 12), leaf (Protocol (Ip6Proto 0)))
     ∷ (one (proto 13), refusal 3)
     ∷ (one (proto 255), refusal 3)
-    ∷ (one (rec 15 0 0 0 0 0 []), leaf (Port SrcOrDst none 0))
+    ∷ (one (rec 15 0 0 0 0 0 []), leaf (Port SrcOrDst None 0))
     ∷ (one (rec 15 0 13 0 0 0 []), refusal 3)
-    ∷ (one (rec 16 0 0 0 0 0 []), leaf (PortRange SrcOrDst none 0 0))
+    ∷ (one (rec 16 0 0 0 0 0 []), leaf (PortRange SrcOrDst None 0 0))
     ∷ (one (rec 16 0 13 0 0 0 []), refusal 3)
     -- the small number of a protocol
     ∷ (one (rec 10 0 11 0x21 0 0 []), leaf (Protocol (Num 0x21)))
@@ -153,10 +156,10 @@ rows =
     ∷ (one (rec 12 2 0 0 0 0 (span 0x31 16)), leaf (Host6 Dst (0x3132 ∷ 0x3334 ∷ 0x3536 ∷ 0x3738 ∷ 0x393a ∷ 0x3b3c ∷ 0x3d3e ∷ 0x3f40 ∷ [])))
     ∷ (one (rec 13 3 0 0 0 0 (span 0x31 8)), leaf (Net SrcAndDst 0x31323334 0x35363738))
     ∷ (one (rec 14 1 0 0xff 0 0 (span 0x31 16)), leaf (Net6 Src 0xff (0x3132 ∷ 0x3334 ∷ 0x3536 ∷ 0x3738 ∷ 0x393a ∷ 0x3b3c ∷ 0x3d3e ∷ 0x3f40 ∷ [])))
-    ∷ (one (rec 15 2 5 0 0x4142 0 []), leaf (Port Dst (some Tcp) 0x4142))
-    ∷ (one (rec 15 1 11 0x21 0x4142 0 []), leaf (Port Src (some (Num 0x21)) 0x4142))
-    ∷ (one (rec 16 3 6 0 0x4142 0x5152 []), leaf (PortRange SrcAndDst (some Udp) 0x4142 0x5152))
-    ∷ (one (rec 16 1 12 0x21 0x4142 0x5152 []), leaf (PortRange Src (some (Ip6Proto 0x21)) 0x4142 0x5152))
+    ∷ (one (rec 15 2 5 0 0x4142 0 []), leaf (Port Dst (Some Tcp) 0x4142))
+    ∷ (one (rec 15 1 11 0x21 0x4142 0 []), leaf (Port Src (Some (Num 0x21)) 0x4142))
+    ∷ (one (rec 16 3 6 0 0x4142 0x5152 []), leaf (PortRange SrcAndDst (Some Udp) 0x4142 0x5152))
+    ∷ (one (rec 16 1 12 0x21 0x4142 0x5152 []), leaf (PortRange Src (Some (Ip6Proto 0x21)) 0x4142 0x5152))
     ∷ (one (rec 17 2 0 0 0 0 (span 0x31 6)), leaf (EtherHost Dst (0x31 ∷ 0x32 ∷ 0x33 ∷ 0x34 ∷ 0x35 ∷ 0x36 ∷ [])))
     ∷ (one (rec 18 0 0 0 0x4142 0 []), leaf (EtherProto 0x4142))
     ∷ (one (plain 19), leaf EtherMulticast)

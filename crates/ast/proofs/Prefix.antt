@@ -1,13 +1,15 @@
 -- The prefix order said directly, "a node, its left part, its right part", and that `trees_of` reads exactly this order.
+use Rattle.std.specs.Prelude.{Ok}
 use mathlib.Core.Logic.{◌↔◌}
 use mathlib.Core.Path.{◌≡◌, refl, ap, ◌∙◌}
 use mathlib.Core.List.{List, [], ◌∷◌, ◌++◌, append_assoc, append-nil}
 use native.Mathlib.Omega.{arith}
 use lib.ListN.{length, length-append}
-use Rattle.error.specs.Answer.{done, ◌>>=◌}
+use Rattle.error.specs.Answer.{◌>>=◌}
 use Rattle.error.proofs.All.{All, all_bind}
 use Rattle.ast.specs.Tree.{Expr, Leaf, And, Or, Not, records}
-use Rattle.ast.specs.Record.{Node, AndNode, OrNode, NotNode, LeafNode}
+use Rattle.ast.specs.declared.Node.{Node}
+use Rattle.ast.specs.declared.Node.TheVariants.{AndNode, OrNode, NotNode, LeafNode}
 use Rattle.ast.specs.File.{grow, trees_of, only}
 
 abbrev pub prefix : Expr → List Node
@@ -28,11 +30,11 @@ prefix_length (Not t) = omega (arith, prefix_length t)
 
 -- ---- nodes in prefix order are read as their trees
 
-before : (x : Node) (ns : List Node) (us ts : List Expr) → trees_of ns ≡ done us → grow x us ≡ done ts → trees_of (x ∷ ns) ≡ done ts
+before : (x : Node) (ns : List Node) (us ts : List Expr) → trees_of ns ≡ Ok us → grow x us ≡ Ok ts → trees_of (x ∷ ns) ≡ Ok ts
 unfolding trees_of
 before x ns us ts e g = rw (e, g)
 
-prefix_before : (t : Expr) (ns : List Node) (ts : List Expr) → trees_of ns ≡ done ts → trees_of (prefix t ++ ns) ≡ done (t ∷ ts)
+prefix_before : (t : Expr) (ns : List Node) (ts : List Expr) → trees_of ns ≡ Ok ts → trees_of (prefix t ++ ns) ≡ Ok (t ∷ ts)
 unfolding grow
 prefix_before (Leaf p) ns ts e = before (LeafNode p) ns ts (Leaf p ∷ ts) e refl
 prefix_before (And l r) ns ts e =
@@ -43,7 +45,7 @@ prefix_before (Or l r) ns ts e =
     (ap trees_of (append_assoc (prefix l) (prefix r) ns) ∙ prefix_before l (prefix r ++ ns) (r ∷ ts) (prefix_before r ns ts e)) refl
 prefix_before (Not t) ns ts e = before NotNode (prefix t ++ ns) (t ∷ ts) (Not t ∷ ts) (prefix_before t ns ts e) refl
 
-pub trees_prefixes : (ts : List Expr) → trees_of (prefixes ts) ≡ done ts
+pub trees_prefixes : (ts : List Expr) → trees_of (prefixes ts) ≡ Ok ts
 unfolding trees_of
 trees_prefixes [] = refl
 trees_prefixes (t ∷ ts) = prefix_before t (prefixes ts) ts (trees_prefixes ts)
@@ -67,7 +69,7 @@ unfolding trees_of
 all_prefixes [] = refl
 all_prefixes (x ∷ xs) = all_bind (λ us. xs ≡ prefixes us) (λ ts. x ∷ xs ≡ prefixes ts) (trees_of xs) (grow x) (all_prefixes xs) (λ us h. grow_prefixes x us xs h)
 
-pub prefixes_of : (ns : List Node) (ts : List Expr) → trees_of ns ≡ done ts → ns ≡ prefixes ts
+pub prefixes_of : (ns : List Node) (ts : List Expr) → trees_of ns ≡ Ok ts → ns ≡ prefixes ts
 prefixes_of ns ts e = rw e at (all_prefixes ns)
 
 -- ---- one tree
@@ -78,7 +80,7 @@ only_prefix ns (t ∷ []) h = h ∙ append-nil (prefix t)
 only_prefix ns (t ∷ u ∷ ts) h = tt
 
 -- a file's nodes are one tree exactly when they are its prefix order
-pub one_tree : (ns : List Node) (t : Expr) → (trees_of ns >>= only ≡ done t) ↔ (ns ≡ prefix t)
+pub one_tree : (ns : List Node) (t : Expr) → (trees_of ns >>= only ≡ Ok t) ↔ (ns ≡ prefix t)
 one_tree ns t = (
   λ e. rw e at (all_bind (λ ts. ns ≡ prefixes ts) (λ u. ns ≡ prefix u) (trees_of ns) only (all_prefixes ns) (λ ts h. only_prefix ns ts h)),
   λ e. rw (e, ← append-nil (prefix t), trees_prefixes (t ∷ [])),

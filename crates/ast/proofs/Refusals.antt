@@ -7,7 +7,9 @@ use Rattle.error.specs.Answer.{Numbered}
 use Rattle.error.proofs.All.{Turned, turned_bind, turned_cond}
 use Rattle.bpf.specs.Bytes.{be}
 use Rattle.ast.specs.Tree.{Expr}
-use Rattle.ast.specs.Record.{Record, record_at, Node, AndNode, OrNode, NotNode, LeafNode, Kind, kinds, good, node_by, node_at}
+use Rattle.ast.specs.declared.Node.{Node}
+use Rattle.ast.specs.declared.Node.TheVariants.{AndNode, OrNode, NotNode, LeafNode}
+use Rattle.ast.specs.Record.{Record, record_at, Kind, kinds, good, node_by, node_at}
 use Rattle.ast.specs.File.{link_of, strange, header, wrong, count, nodes_at, grow, trees_of, only, parse}
 
 abbrev pub early : List ℕ

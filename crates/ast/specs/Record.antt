@@ -1,13 +1,18 @@
 -- One 24-byte record of a tree file: what it may hold (number 3), and the node that it stands for.
+use Rattle.std.specs.Prelude.{Option, None, Some}
+use Rattle.std.specs.Prelude.{Ok, Err}
 use Rattle.std.specs.Prelude.{ℕ, ◌+◌, ◌-◌, List, [], ◌∷◌, Bool, false, cond, not, ◌&&◌, ◌||◌, get_or, take, eqb, leb}
-use Rattle.std.proofs.Math.Option.{Option, none, some}
 use Rattle.error.specs.declared.Refusal.TheVariants.{BadRecord}
-use Rattle.error.specs.Answer.{Out, refused, done}
+use Rattle.error.specs.Answer.{Out}
 use Rattle.bpf.specs.Bytes.{be, segments_at, bytes_at}
+use Rattle.ast.specs.declared.Node.{Node}
+use Rattle.ast.specs.declared.Node.TheVariants.{AndNode, OrNode, NotNode, LeafNode}
 use Rattle.ast.specs.declared.Dir.{Dir}
 use Rattle.ast.specs.declared.Dir.TheVariants.{SrcOrDst, Src, Dst, SrcAndDst}
-use Rattle.ast.specs.Tree.{Proto, Ip, Ip6, Arp, Rarp, Tcp, Udp, Icmp, Icmp6, Igmp, Sctp, Num, Ip6Proto}
-use Rattle.ast.specs.Tree.{Primitive, Protocol, Host4, Host6, Net, Net6, Port, PortRange, EtherHost, EtherProto, EtherMulticast, IpBroadcast, IpMulticast, Ip6Multicast, IpProtoChain, Ip6ProtoChain}
+use Rattle.ast.specs.declared.Proto.{Proto}
+use Rattle.ast.specs.declared.Proto.TheVariants.{Ip, Ip6, Arp, Rarp, Tcp, Udp, Icmp, Icmp6, Igmp, Sctp, Num, Ip6Proto}
+use Rattle.ast.specs.declared.Primitive.{Primitive}
+use Rattle.ast.specs.declared.Primitive.TheVariants.{Protocol, Host4, Host6, Net, Net6, Port, PortRange, EtherHost, EtherProto, EtherMulticast, IpBroadcast, IpMulticast, Ip6Multicast, IpProtoChain, Ip6ProtoChain}
 
 -- "Record: byte 0 kind; byte 1 direction (..); byte 2 protocol; byte 3 small number; bytes 4-5 A; 6-7 B; 8-23 address."
 pub record Record : Type 0 where
@@ -45,12 +50,7 @@ proto_of p n = get_or (protos n) (p - 1) Ip
 
 -- "Kinds 15 and 16 also take 0, none."
 abbrev pub port_proto_of : ℕ → ℕ → Option Proto
-port_proto_of p n = cond (eqb p 0) none (some (proto_of p n))
-
--- what a record stands for: a join, or a condition
-pub data Node : Type 0 where
-  AndNode OrNode NotNode : Node
-  LeafNode : Primitive → Node
+port_proto_of p n = cond (eqb p 0) None (Some (proto_of p n))
 
 -- The fields that a kind may use beside the address, each named by its first byte: direction ("D means that direction is used"),
 -- protocol, small number, A and B
@@ -126,8 +126,8 @@ good k r =
 
 -- the node of a record by a list of kinds; number 3, "unknown kind, direction or protocol, or an unused byte not zero"
 unfoldable pub node_by : List Kind → Record → Out Node
-node_by [] r = refused BadRecord
-node_by (k ∷ ks) r = cond (eqb r.kind k.number) (cond (good k r) (done (k.node r)) (refused BadRecord)) (node_by ks r)
+node_by [] r = Err BadRecord
+node_by (k ∷ ks) r = cond (eqb r.kind k.number) (cond (good k r) (Ok (k.node r)) (Err BadRecord)) (node_by ks r)
 
 abbrev pub node_at : ℕ → List ℕ → Out Node
 node_at at s = node_by kinds (record_at at s)

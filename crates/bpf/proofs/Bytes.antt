@@ -65,6 +65,9 @@ pub le_last : (at : ℕ) (s : List ℕ) → le_at 1 at s ≡ get_or s at 0
 unfolding le_at
 le_last at s = omega arith
 
+pub le_half : (at : ℕ) (s : List ℕ) → le_at 2 at s ≡ get_or s at 0 + get_or s (at + 1) 0 * 256
+le_half at s = le_next 1 at (at + 1) s (omega arith) (le_last (at + 1) s) ∙ omega arith
+
 pub le_word : (at : ℕ) (s : List ℕ) → le_at 4 at s ≡ get_or s at 0 + get_or s (at + 1) 0 * 256 + get_or s (at + 2) 0 * 65536 + get_or s (at + 3) 0 * 16777216
 le_word at s =
     le_next 3 at (at + 1) s (omega arith) (le_next 2 (at + 1) (at + 2) s (omega arith) (le_next 1 (at + 2) (at + 3) s (omega arith) (le_last (at + 3) s)))

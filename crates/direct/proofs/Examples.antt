@@ -1,9 +1,9 @@
 -- The direct reading on worked frames: for each link, kind, protocol and direction a frame on which it is true and near ones on which it
 -- is false. The expected truths come from document 01's sentences, not from the definition.
+use Rattle.std.specs.Prelude.{None, Some}
 use Prim.Native.Nat.{ℕ, ◌+◌, ◌*◌, ◌-◌, ◌^◌}
 use mathlib.Core.List.{List, [], ◌∷◌, ◌++◌, map}
 use mathlib.Core.Bool.{Bool, true, cond, ◌&&◌}
-use mathlib.Core.Option.{none, some}
 use lib.ListN.{set, take, replicate}
 use lib.Dec.{eqb, T}
 use lib.Bits.{bit_xor}
@@ -12,8 +12,9 @@ use Rattle.ast.specs.declared.LinkType.{LinkType}
 use Rattle.ast.specs.declared.LinkType.TheVariants.{Ethernet, RawIp, LinuxSll}
 use Rattle.ast.specs.declared.Dir.{Dir}
 use Rattle.ast.specs.declared.Dir.TheVariants.{SrcOrDst, Src, Dst, SrcAndDst}
-use Rattle.ast.specs.Tree.{Ip, Ip6, Arp, Rarp, Tcp, Udp, Icmp, Icmp6, Igmp, Sctp, Num, Ip6Proto}
-use Rattle.ast.specs.Tree.{Primitive, Protocol, Host4, Host6, Net, Net6, Port, PortRange, EtherHost, EtherProto, EtherMulticast, IpBroadcast, IpMulticast, Ip6Multicast, IpProtoChain, Ip6ProtoChain}
+use Rattle.ast.specs.declared.Proto.TheVariants.{Ip, Ip6, Arp, Rarp, Tcp, Udp, Icmp, Icmp6, Igmp, Sctp, Num, Ip6Proto}
+use Rattle.ast.specs.declared.Primitive.{Primitive}
+use Rattle.ast.specs.declared.Primitive.TheVariants.{Protocol, Host4, Host6, Net, Net6, Port, PortRange, EtherHost, EtherProto, EtherMulticast, IpBroadcast, IpMulticast, Ip6Multicast, IpProtoChain, Ip6ProtoChain}
 use Rattle.ast.specs.Tree.{Expr, Leaf, And, Or, Not}
 use Rattle.direct.specs.Reading.{bytes_are, segments_agree, kind, ipv4, ipv6, reads_proto, transport, reads_primitive, reads}
 use Rattle.direct.proofs.Frames.{out, eth, sll, mac_a, mac_b, a4, b4, a6, b6, flip, seg, ether, cooked, raw, ip4, ip6, ports, arp, proto4, proto6, hosts4, hosts6, tcp4, tcp6}
@@ -168,16 +169,16 @@ directions =
     ++ sided RawIp (λ d. Net d 0x0a00_0000 0xff00_0000) whole shifted hosts4 a4 b4 0x0800_0001
     ++ sided Ethernet (λ d. Net6 d 32 (seg a6)) (ether 0x86dd) (cooked 0x86dd) hosts6 (flip 33 a6) b6 (flip 32 a6)
     ++ sided LinuxSll (λ d. Net6 d 32 (seg a6)) (cooked 0x86dd) (cooked 0x0800) hosts6 (flip 33 a6) b6 (flip 32 a6)
-    ++ sided Ethernet (λ d. Port d none 80) (ether 0x0800) (ether 0x0806) tcp4 80 1234 81
-    ++ sided LinuxSll (λ d. Port d (some Tcp) 80) (cooked 0x0800) (cooked 0x86dd) tcp4 80 1234 0x5000
-    ++ sided RawIp (λ d. Port d (some Udp) 53) whole shifted udp4 53 1234 54
-    ++ sided Ethernet (λ d. Port d (some Udp) 53) (ether 0x86dd) (ether 0x0800) udp6 53 1234 0x0135
-    ++ sided LinuxSll (λ d. Port d none 53) (cooked 0x86dd) (ether 0x86dd) udp6 53 1234 52
-    ++ sided Ethernet (λ d. PortRange d none 100 200) (ether 0x0800) (ether 0x86dd) tcp4 100 99 201
-    ++ sided LinuxSll (λ d. PortRange d (some Udp) 100 200) (cooked 0x0800) (ether 0x0800) udp4 200 201 99
-    ++ sided RawIp (λ d. PortRange d (some Tcp) 100 200) whole shifted tcp4 150 99 0x6400
-    ++ sided Ethernet (λ d. PortRange d (some Tcp) 100 200) (ether 0x86dd) (ether 0x0806) tcp6 150 201 99
-    ++ sided LinuxSll (λ d. PortRange d none 100 200) (cooked 0x86dd) (cooked 0x0800) udp6 101 0 65535
+    ++ sided Ethernet (λ d. Port d None 80) (ether 0x0800) (ether 0x0806) tcp4 80 1234 81
+    ++ sided LinuxSll (λ d. Port d (Some Tcp) 80) (cooked 0x0800) (cooked 0x86dd) tcp4 80 1234 0x5000
+    ++ sided RawIp (λ d. Port d (Some Udp) 53) whole shifted udp4 53 1234 54
+    ++ sided Ethernet (λ d. Port d (Some Udp) 53) (ether 0x86dd) (ether 0x0800) udp6 53 1234 0x0135
+    ++ sided LinuxSll (λ d. Port d None 53) (cooked 0x86dd) (ether 0x86dd) udp6 53 1234 52
+    ++ sided Ethernet (λ d. PortRange d None 100 200) (ether 0x0800) (ether 0x86dd) tcp4 100 99 201
+    ++ sided LinuxSll (λ d. PortRange d (Some Udp) 100 200) (cooked 0x0800) (ether 0x0800) udp4 200 201 99
+    ++ sided RawIp (λ d. PortRange d (Some Tcp) 100 200) whole shifted tcp4 150 99 0x6400
+    ++ sided Ethernet (λ d. PortRange d (Some Tcp) 100 200) (ether 0x86dd) (ether 0x0806) tcp6 150 201 99
+    ++ sided LinuxSll (λ d. PortRange d None 100 200) (cooked 0x86dd) (cooked 0x0800) udp6 101 0 65535
     ++ sided Ethernet (λ d. EtherHost d (out 6 mac_a)) whole shifted stations mac_a mac_b 0x0200_5e10_010a
     ++ sided RawIp (λ d. EtherHost d (out 6 mac_a)) whole shifted stations mac_a mac_b 0x0200_5e11_000a
 
@@ -287,39 +288,39 @@ carriers on =
 
 sets : LinkType → (ℕ → List ℕ → List ℕ) → List Row
 sets L on =
-    row L (Port Dst none 80) (carriers on) 0b1100_1100_0000_0000
-    ∷ row L (Port Dst (some Tcp) 80) (carriers on) 0b1000_1000_0000_0000
-    ∷ row L (Port Dst (some Udp) 80) (carriers on) 0b0100_0100_0000_0000
-    ∷ row L (Port Dst (some Sctp) 80) (carriers on) 0b0010_0010_0000_0000
-    ∷ row L (PortRange Src none 1234 1234) (carriers on) 0b1100_1100_0000_0000
-    ∷ row L (PortRange Src (some Tcp) 1234 1234) (carriers on) 0b1000_1000_0000_0000
-    ∷ row L (PortRange Src (some Udp) 1234 1234) (carriers on) 0b0100_0100_0000_0000
-    ∷ row L (PortRange Src (some Sctp) 1234 1234) (carriers on) 0b0010_0010_0000_0000
+    row L (Port Dst None 80) (carriers on) 0b1100_1100_0000_0000
+    ∷ row L (Port Dst (Some Tcp) 80) (carriers on) 0b1000_1000_0000_0000
+    ∷ row L (Port Dst (Some Udp) 80) (carriers on) 0b0100_0100_0000_0000
+    ∷ row L (Port Dst (Some Sctp) 80) (carriers on) 0b0010_0010_0000_0000
+    ∷ row L (PortRange Src None 1234 1234) (carriers on) 0b1100_1100_0000_0000
+    ∷ row L (PortRange Src (Some Tcp) 1234 1234) (carriers on) 0b1000_1000_0000_0000
+    ∷ row L (PortRange Src (Some Udp) 1234 1234) (carriers on) 0b0100_0100_0000_0000
+    ∷ row L (PortRange Src (Some Sctp) 1234 1234) (carriers on) 0b0010_0010_0000_0000
     -- the other protocols: number 6 turns these trees down, and the set is empty
-    ∷ row L (Port Dst (some Ip) 80) (carriers on) 0
-    ∷ row L (Port Dst (some Ip6) 80) (carriers on) 0
-    ∷ row L (Port Dst (some Arp) 80) (carriers on) 0
-    ∷ row L (Port Dst (some Rarp) 80) (carriers on) 0
-    ∷ row L (Port Dst (some Icmp) 80) (carriers on) 0
-    ∷ row L (Port Dst (some Icmp6) 80) (carriers on) 0
-    ∷ row L (Port Dst (some Igmp) 80) (carriers on) 0
-    ∷ row L (Port Dst (some (Num 6)) 80) (carriers on) 0
-    ∷ row L (Port Dst (some (Ip6Proto 6)) 80) (carriers on) 0
-    ∷ row L (PortRange Dst (some Icmp) 0 65535) (carriers on) 0
-    ∷ row L (PortRange Dst (some (Num 17)) 0 65535) (carriers on) 0
+    ∷ row L (Port Dst (Some Ip) 80) (carriers on) 0
+    ∷ row L (Port Dst (Some Ip6) 80) (carriers on) 0
+    ∷ row L (Port Dst (Some Arp) 80) (carriers on) 0
+    ∷ row L (Port Dst (Some Rarp) 80) (carriers on) 0
+    ∷ row L (Port Dst (Some Icmp) 80) (carriers on) 0
+    ∷ row L (Port Dst (Some Icmp6) 80) (carriers on) 0
+    ∷ row L (Port Dst (Some Igmp) 80) (carriers on) 0
+    ∷ row L (Port Dst (Some (Num 6)) 80) (carriers on) 0
+    ∷ row L (Port Dst (Some (Ip6Proto 6)) 80) (carriers on) 0
+    ∷ row L (PortRange Dst (Some Icmp) 0 65535) (carriers on) 0
+    ∷ row L (PortRange Dst (Some (Num 17)) 0 65535) (carriers on) 0
     -- the same on protocols of their own: IGMP is 2, and 4 and 41 are IPv4 and IPv6 within IPv4
-    ∷ row L (Port Dst (some Igmp) 80) (on 0x0800 (proto4 2) ∷ on 0x86dd (proto6 2) ∷ []) 0
-    ∷ row L (Port Dst (some Ip) 80) (on 0x0800 (proto4 4) ∷ on 0x86dd (proto6 4) ∷ []) 0
-    ∷ row L (Port Dst (some Ip6) 80) (on 0x0800 (proto4 41) ∷ on 0x86dd (proto6 41) ∷ []) 0
+    ∷ row L (Port Dst (Some Igmp) 80) (on 0x0800 (proto4 2) ∷ on 0x86dd (proto6 2) ∷ []) 0
+    ∷ row L (Port Dst (Some Ip) 80) (on 0x0800 (proto4 4) ∷ on 0x86dd (proto6 4) ∷ []) 0
+    ∷ row L (Port Dst (Some Ip6) 80) (on 0x0800 (proto4 41) ∷ on 0x86dd (proto6 41) ∷ []) 0
     ∷ []
 
 raw_sets : List Row
 raw_sets =
-    row RawIp (Port Dst none 80) (carriers raw) 0b1100_0000_0000_1100
-    ∷ row RawIp (Port Dst (some Tcp) 80) (carriers raw) 0b1000_0000_0000_1000
-    ∷ row RawIp (Port Dst (some Udp) 80) (carriers raw) 0b0100_0000_0000_0100
-    ∷ row RawIp (PortRange Src (some Sctp) 1234 1234) (carriers raw) 0b0010_0000_0000_0001
-    ∷ row RawIp (Port Dst (some Icmp) 80) (carriers raw) 0
+    row RawIp (Port Dst None 80) (carriers raw) 0b1100_0000_0000_1100
+    ∷ row RawIp (Port Dst (Some Tcp) 80) (carriers raw) 0b1000_0000_0000_1000
+    ∷ row RawIp (Port Dst (Some Udp) 80) (carriers raw) 0b0100_0000_0000_0100
+    ∷ row RawIp (PortRange Src (Some Sctp) 1234 1234) (carriers raw) 0b0010_0000_0000_0001
+    ∷ row RawIp (Port Dst (Some Icmp) 80) (carriers raw) 0
     ∷ []
 
 -- Ethernet frames by header length, and by flags and fragment offset
@@ -345,65 +346,65 @@ to_by6 d = cooked 0x86dd (udp6 1234 d)
 
 port_places : List Row
 port_places =
-    row Ethernet (Port Dst none 80) (map sized (5 ∷ 6 ∷ 7 ∷ 8 ∷ 9 ∷ 10 ∷ 11 ∷ 12 ∷ 13 ∷ 14 ∷ 15 ∷ [])) 0b111_1111_1111
+    row Ethernet (Port Dst None 80) (map sized (5 ∷ 6 ∷ 7 ∷ 8 ∷ 9 ∷ 10 ∷ 11 ∷ 12 ∷ 13 ∷ 14 ∷ 15 ∷ [])) 0b111_1111_1111
     -- the options (bytes 1) are no ports
-    ∷ row Ethernet (Port SrcOrDst none 0x0101) (map sized (5 ∷ 6 ∷ 7 ∷ 8 ∷ 9 ∷ 10 ∷ 11 ∷ 12 ∷ 13 ∷ 14 ∷ 15 ∷ [])) 0
-    ∷ row LinuxSll (Port Dst none 80) (map (λ ihl. cooked 0x0800 (ip4 ihl 0 17 a4 b4 (ports 1234 80))) (5 ∷ 6 ∷ 15 ∷ [])) 0b111
-    ∷ row RawIp (Port Dst none 80) (map (λ ihl. ip4 ihl 0 17 a4 b4 (ports 1234 80)) (5 ∷ 6 ∷ 15 ∷ [])) 0b111
+    ∷ row Ethernet (Port SrcOrDst None 0x0101) (map sized (5 ∷ 6 ∷ 7 ∷ 8 ∷ 9 ∷ 10 ∷ 11 ∷ 12 ∷ 13 ∷ 14 ∷ 15 ∷ [])) 0
+    ∷ row LinuxSll (Port Dst None 80) (map (λ ihl. cooked 0x0800 (ip4 ihl 0 17 a4 b4 (ports 1234 80))) (5 ∷ 6 ∷ 15 ∷ [])) 0b111
+    ∷ row RawIp (Port Dst None 80) (map (λ ihl. ip4 ihl 0 17 a4 b4 (ports 1234 80)) (5 ∷ 6 ∷ 15 ∷ [])) 0b111
     -- a header length below 5: what stands there in the header is read
-    ∷ row Ethernet (Port Dst none 80) (map sized (0 ∷ 1 ∷ 2 ∷ 3 ∷ 4 ∷ [])) 0
-    ∷ row Ethernet (Port Src none 0x40b8) (map sized (0 ∷ 1 ∷ 2 ∷ 3 ∷ 4 ∷ [])) 0b10000
-    ∷ row Ethernet (Port Src none 0x1c46) (map sized (0 ∷ 1 ∷ 2 ∷ 3 ∷ 4 ∷ [])) 0b01000
-    ∷ row Ethernet (Port Dst none 0xb1e6) (map sized (0 ∷ 1 ∷ 2 ∷ 3 ∷ 4 ∷ [])) 0b00100
-    ∷ row Ethernet (Port Src none 0x0a00) (map sized (0 ∷ 1 ∷ 2 ∷ 3 ∷ 4 ∷ [])) 0b00010
-    ∷ row Ethernet (Port Dst none 0x0102) (map sized (0 ∷ 1 ∷ 2 ∷ 3 ∷ 4 ∷ [])) 0b00001
+    ∷ row Ethernet (Port Dst None 80) (map sized (0 ∷ 1 ∷ 2 ∷ 3 ∷ 4 ∷ [])) 0
+    ∷ row Ethernet (Port Src None 0x40b8) (map sized (0 ∷ 1 ∷ 2 ∷ 3 ∷ 4 ∷ [])) 0b10000
+    ∷ row Ethernet (Port Src None 0x1c46) (map sized (0 ∷ 1 ∷ 2 ∷ 3 ∷ 4 ∷ [])) 0b01000
+    ∷ row Ethernet (Port Dst None 0xb1e6) (map sized (0 ∷ 1 ∷ 2 ∷ 3 ∷ 4 ∷ [])) 0b00100
+    ∷ row Ethernet (Port Src None 0x0a00) (map sized (0 ∷ 1 ∷ 2 ∷ 3 ∷ 4 ∷ [])) 0b00010
+    ∷ row Ethernet (Port Dst None 0x0102) (map sized (0 ∷ 1 ∷ 2 ∷ 3 ∷ 4 ∷ [])) 0b00001
     -- the first byte's upper half does not count, its lower half does
-    ∷ row Ethernet (Port Dst none 80) (map (λ v. set (sized 5) 14 v) (0x45 ∷ 0x05 ∷ 0xf5 ∷ 0x46 ∷ 0x44 ∷ 0x54 ∷ [])) 0b111000
-    ∷ row Ethernet (Port Dst none 0x68b1) (map (λ v. set (sized 5) 14 v) (0x45 ∷ 0x46 ∷ [])) 0b01
+    ∷ row Ethernet (Port Dst None 80) (map (λ v. set (sized 5) 14 v) (0x45 ∷ 0x05 ∷ 0xf5 ∷ 0x46 ∷ 0x44 ∷ 0x54 ∷ [])) 0b111000
+    ∷ row Ethernet (Port Dst None 0x68b1) (map (λ v. set (sized 5) 14 v) (0x45 ∷ 0x46 ∷ [])) 0b01
     -- on IPv6 the place is 40 whatever the first byte
-    ∷ row Ethernet (Port Dst none 80) (map (with6 0) (0x60 ∷ 0x6f ∷ 0x65 ∷ 0x45 ∷ [])) 0b1111
+    ∷ row Ethernet (Port Dst None 80) (map (with6 0) (0x60 ∷ 0x6f ∷ 0x65 ∷ 0x45 ∷ [])) 0b1111
     -- fragments: the flags do not count, the offset does
-    ∷ row Ethernet (Port Dst none 80) (map frag (0 ∷ 0x4000 ∷ 0x2000 ∷ 0x8000 ∷ 0xe000 ∷ [])) 0b11111
-    ∷ row Ethernet (Port Dst none 80) (map frag (1 ∷ 0x0010 ∷ 0x0100 ∷ 0x1000 ∷ 0x1fff ∷ 0x2001 ∷ 0x5000 ∷ 0xffff ∷ [])) 0
-    ∷ row Ethernet (PortRange SrcOrDst (some Tcp) 0 65535) (map frag (0x6000 ∷ 1 ∷ 0x3000 ∷ [])) 0b100
-    ∷ row LinuxSll (Port Dst none 80) (map (λ n. cooked 0x0800 (ip4 5 n 6 a4 b4 (ports 1234 80))) (0x2000 ∷ 0x2001 ∷ [])) 0b10
-    ∷ row RawIp (Port Dst none 80) (map (λ n. ip4 5 n 6 a4 b4 (ports 1234 80)) (0x4000 ∷ 0x1000 ∷ [])) 0b10
+    ∷ row Ethernet (Port Dst None 80) (map frag (0 ∷ 0x4000 ∷ 0x2000 ∷ 0x8000 ∷ 0xe000 ∷ [])) 0b11111
+    ∷ row Ethernet (Port Dst None 80) (map frag (1 ∷ 0x0010 ∷ 0x0100 ∷ 0x1000 ∷ 0x1fff ∷ 0x2001 ∷ 0x5000 ∷ 0xffff ∷ [])) 0
+    ∷ row Ethernet (PortRange SrcOrDst (Some Tcp) 0 65535) (map frag (0x6000 ∷ 1 ∷ 0x3000 ∷ [])) 0b100
+    ∷ row LinuxSll (Port Dst None 80) (map (λ n. cooked 0x0800 (ip4 5 n 6 a4 b4 (ports 1234 80))) (0x2000 ∷ 0x2001 ∷ [])) 0b10
+    ∷ row RawIp (Port Dst None 80) (map (λ n. ip4 5 n 6 a4 b4 (ports 1234 80)) (0x4000 ∷ 0x1000 ∷ [])) 0b10
     ∷ row Ethernet (Protocol Tcp) (map frag (1 ∷ 0x1fff ∷ [])) 0b11
     ∷ row Ethernet (Host4 Src a4) (map frag (1 ∷ 0x1fff ∷ [])) 0b11
     -- no fragment field on IPv6: next header and hop limit stand there
-    ∷ row Ethernet (Port Dst none 80) (map (with6 7) (0 ∷ 1 ∷ 64 ∷ 255 ∷ [])) 0b1111
-    ∷ row LinuxSll (PortRange Dst (some Sctp) 80 80) (cooked 0x86dd (proto6 132) ∷ cooked 0x86dd (set (proto6 132) 7 255) ∷ []) 0b11
+    ∷ row Ethernet (Port Dst None 80) (map (with6 7) (0 ∷ 1 ∷ 64 ∷ 255 ∷ [])) 0b1111
+    ∷ row LinuxSll (PortRange Dst (Some Sctp) 80 80) (cooked 0x86dd (proto6 132) ∷ cooked 0x86dd (set (proto6 132) 7 255) ∷ []) 0b11
     -- extension headers are not followed: hop-by-hop, routing, fragment, destination options
-    ∷ row Ethernet (Port Dst none 80) (map extended (0 ∷ 43 ∷ 44 ∷ 60 ∷ [])) 0
+    ∷ row Ethernet (Port Dst None 80) (map extended (0 ∷ 43 ∷ 44 ∷ 60 ∷ [])) 0
     ∷ row Ethernet (Ip6ProtoChain 6) (map extended (0 ∷ 43 ∷ 44 ∷ 60 ∷ 6 ∷ [])) 0b00001
     ∷ row Ethernet (IpProtoChain 6) (map (λ q. ether 0x0800 (ip4 5 0 q a4 b4 (out 4 0x0604_0000 ++ ports 1234 80))) (51 ∷ 6 ∷ [])) 0b01
     -- an IPv6 packet under the IPv4 kind and the other way round
-    ∷ row Ethernet (Port SrcOrDst none 80) (ether 0x0800 (tcp6 1234 80) ∷ ether 0x86dd (tcp4 1234 80) ∷ []) 0
+    ∷ row Ethernet (Port SrcOrDst None 80) (ether 0x0800 (tcp6 1234 80) ∷ ether 0x86dd (tcp4 1234 80) ∷ []) 0
     ∷ []
 
 port_numbers : List Row
 port_numbers =
-    row Ethernet (Port Dst none 80) (map to (80 ∷ 79 ∷ 81 ∷ 0x5000 ∷ 0x0150 ∷ 0xff50 ∷ 0 ∷ [])) 0b1000000
-    ∷ row Ethernet (Port Dst none 0) (map to (0 ∷ 1 ∷ 0x0100 ∷ 65535 ∷ [])) 0b1000
-    ∷ row Ethernet (Port Dst none 65535) (map to (65535 ∷ 65534 ∷ 0x7fff ∷ 0 ∷ [])) 0b1000
-    ∷ row LinuxSll (Port Dst none 0x1f90) (map to_by6 (0x1f90 ∷ 0x901f ∷ 0x1f91 ∷ 0x1e90 ∷ [])) 0b1000
+    row Ethernet (Port Dst None 80) (map to (80 ∷ 79 ∷ 81 ∷ 0x5000 ∷ 0x0150 ∷ 0xff50 ∷ 0 ∷ [])) 0b1000000
+    ∷ row Ethernet (Port Dst None 0) (map to (0 ∷ 1 ∷ 0x0100 ∷ 65535 ∷ [])) 0b1000
+    ∷ row Ethernet (Port Dst None 65535) (map to (65535 ∷ 65534 ∷ 0x7fff ∷ 0 ∷ [])) 0b1000
+    ∷ row LinuxSll (Port Dst None 0x1f90) (map to_by6 (0x1f90 ∷ 0x901f ∷ 0x1f91 ∷ 0x1e90 ∷ [])) 0b1000
     -- the bytes after the ports are no ports
-    ∷ row Ethernet (Port SrcOrDst none 0x3ade) (map to (80 ∷ 0x3ade ∷ [])) 0b01
-    ∷ row Ethernet (PortRange Dst none 100 200) (map to (99 ∷ 100 ∷ 101 ∷ 150 ∷ 199 ∷ 200 ∷ 201 ∷ [])) 0b0111110
-    ∷ row LinuxSll (PortRange Dst none 100 200) (map to_by6 (99 ∷ 100 ∷ 101 ∷ 150 ∷ 199 ∷ 200 ∷ 201 ∷ [])) 0b0111110
-    ∷ row RawIp (PortRange Dst none 100 200) (map (tcp4 0) (99 ∷ 100 ∷ 200 ∷ 201 ∷ []) ++ (tcp4 100 0 ∷ [])) 0b01100
+    ∷ row Ethernet (Port SrcOrDst None 0x3ade) (map to (80 ∷ 0x3ade ∷ [])) 0b01
+    ∷ row Ethernet (PortRange Dst None 100 200) (map to (99 ∷ 100 ∷ 101 ∷ 150 ∷ 199 ∷ 200 ∷ 201 ∷ [])) 0b0111110
+    ∷ row LinuxSll (PortRange Dst None 100 200) (map to_by6 (99 ∷ 100 ∷ 101 ∷ 150 ∷ 199 ∷ 200 ∷ 201 ∷ [])) 0b0111110
+    ∷ row RawIp (PortRange Dst None 100 200) (map (tcp4 0) (99 ∷ 100 ∷ 200 ∷ 201 ∷ []) ++ (tcp4 100 0 ∷ [])) 0b01100
     -- low = high, and low > high
-    ∷ row Ethernet (PortRange Dst none 80 80) (map to (79 ∷ 80 ∷ 81 ∷ [])) 0b010
-    ∷ row Ethernet (PortRange Dst none 200 100) (map to (99 ∷ 100 ∷ 150 ∷ 200 ∷ 201 ∷ 0 ∷ 65535 ∷ [])) 0
-    ∷ row Ethernet (PortRange SrcOrDst none 81 80) (ether 0x0800 (tcp4 80 81) ∷ ether 0x0800 (tcp4 81 80) ∷ []) 0
+    ∷ row Ethernet (PortRange Dst None 80 80) (map to (79 ∷ 80 ∷ 81 ∷ [])) 0b010
+    ∷ row Ethernet (PortRange Dst None 200 100) (map to (99 ∷ 100 ∷ 150 ∷ 200 ∷ 201 ∷ 0 ∷ 65535 ∷ [])) 0
+    ∷ row Ethernet (PortRange SrcOrDst None 81 80) (ether 0x0800 (tcp4 80 81) ∷ ether 0x0800 (tcp4 81 80) ∷ []) 0
     -- the ends of 16 bits, and numbers whose bytes exchanged lie elsewhere
-    ∷ row Ethernet (PortRange Dst none 0 65535) (map to (0 ∷ 80 ∷ 65535 ∷ []) ++ (ether 0x0806 (tcp4 1234 80) ∷ [])) 0b1110
-    ∷ row Ethernet (PortRange Dst none 0 0) (map to (0 ∷ 1 ∷ 65535 ∷ [])) 0b100
-    ∷ row Ethernet (PortRange Dst none 65535 65535) (map to (65535 ∷ 65534 ∷ 0 ∷ [])) 0b100
-    ∷ row Ethernet (PortRange Dst none 0x0100 0x01ff) (map to (0x0100 ∷ 0x01ff ∷ 0x0001 ∷ 0xff01 ∷ 0x00ff ∷ 0x0200 ∷ [])) 0b110000
+    ∷ row Ethernet (PortRange Dst None 0 65535) (map to (0 ∷ 80 ∷ 65535 ∷ []) ++ (ether 0x0806 (tcp4 1234 80) ∷ [])) 0b1110
+    ∷ row Ethernet (PortRange Dst None 0 0) (map to (0 ∷ 1 ∷ 65535 ∷ [])) 0b100
+    ∷ row Ethernet (PortRange Dst None 65535 65535) (map to (65535 ∷ 65534 ∷ 0 ∷ [])) 0b100
+    ∷ row Ethernet (PortRange Dst None 0x0100 0x01ff) (map to (0x0100 ∷ 0x01ff ∷ 0x0001 ∷ 0xff01 ∷ 0x00ff ∷ 0x0200 ∷ [])) 0b110000
     -- either: one port within both ends; both: each of them
-    ∷ row Ethernet (PortRange SrcOrDst none 100 200) (map (ether 0x0800) (tcp4 99 201 ∷ tcp4 201 99 ∷ tcp4 99 150 ∷ tcp4 150 201 ∷ [])) 0b0011
-    ∷ row Ethernet (PortRange SrcAndDst none 100 200) (map (ether 0x0800) (tcp4 100 200 ∷ tcp4 200 100 ∷ tcp4 100 201 ∷ tcp4 99 200 ∷ [])) 0b1100
+    ∷ row Ethernet (PortRange SrcOrDst None 100 200) (map (ether 0x0800) (tcp4 99 201 ∷ tcp4 201 99 ∷ tcp4 99 150 ∷ tcp4 150 201 ∷ [])) 0b0011
+    ∷ row Ethernet (PortRange SrcAndDst None 100 200) (map (ether 0x0800) (tcp4 100 200 ∷ tcp4 200 100 ∷ tcp4 100 201 ∷ tcp4 99 200 ∷ [])) 0b1100
     ∷ []
 
 sets_hold : T (test (sets Ethernet ether) && test raw_sets)
@@ -495,7 +496,7 @@ shorts =
     ∷ row RawIp (Protocol (Num 0)) ([] ∷ []) 0b1
     ∷ row RawIp (Protocol Tcp) ([] ∷ []) 0
     ∷ row RawIp (Host4 SrcAndDst 0) ([] ∷ []) 0b1
-    ∷ row RawIp (Port SrcOrDst none 0) ([] ∷ []) 0
+    ∷ row RawIp (Port SrcOrDst None 0) ([] ∷ []) 0
     ∷ row Ethernet (EtherHost SrcAndDst (out 6 0)) ([] ∷ replicate 12 0 ∷ replicate 5 0 ∷ (0 ∷ 1 ∷ []) ∷ []) 0b1110
     -- the address length cut in two, and the sender's address
     ∷ row LinuxSll (EtherHost Src (out 6 0)) ([] ∷ map (cut_to (sent 6 0)) (5 ∷ 6 ∷ 11 ∷ [])) 0b0011
@@ -513,7 +514,7 @@ shorts =
     ∷ row Ethernet (Host6 SrcAndDst (seg 0)) (ether 0x86dd [] ∷ ether 0x0800 [] ∷ []) 0b10
     ∷ row Ethernet (Net6 Src 127 (seg 1)) (ether 0x86dd [] ∷ ether 0x0800 [] ∷ []) 0b10
     ∷ row Ethernet (Net Dst 0x0000_00ff 0xffff_ff00) (ether 0x0800 [] ∷ ether 0x86dd [] ∷ []) 0b10
-    ∷ row Ethernet (Port SrcOrDst none 0) (ether 0x0800 [] ∷ ether 0x86dd [] ∷ []) 0
+    ∷ row Ethernet (Port SrcOrDst None 0) (ether 0x0800 [] ∷ ether 0x86dd [] ∷ []) 0
     -- an address cut: 192.168.0.0, 255.255.255.0; an IPv6 address without its last byte
     ∷ row RawIp (Host4 Dst 0xc0a8_0000) (map (cut_to (hosts4 a4 b4)) (17 ∷ 18 ∷ 19 ∷ [])) 0b010
     ∷ row RawIp IpBroadcast (map (cut_to (hosts4 a4 0xffff_ffff)) (19 ∷ 20 ∷ [])) 0b01
@@ -521,10 +522,10 @@ shorts =
     ∷ row Ethernet (Host6 Dst (seg (b6 - 0x56))) (map (cut_to (to6 b6)) (52 ∷ 53 ∷ 54 ∷ [])) 0b010
     ∷ row Ethernet Ip6Multicast (map (cut_to (to6 (2 ^ 128 - 1))) (38 ∷ 39 ∷ [])) 0b01
     -- ports past the end, and one cut in two
-    ∷ row Ethernet (Port SrcAndDst none 0) (map (cut_to (to 80)) (23 ∷ 24 ∷ 34 ∷ 36 ∷ [])) 0b0110
-    ∷ row Ethernet (Port Src none 0x0400) (map (cut_to (to 80)) (34 ∷ 35 ∷ 36 ∷ [])) 0b010
-    ∷ row Ethernet (PortRange Dst none 0 79) (map (cut_to (to 80)) (36 ∷ 37 ∷ 38 ∷ [])) 0b110
-    ∷ row LinuxSll (Port Dst (some Udp) 0) (map (cut_to (to_by6 80)) (22 ∷ 23 ∷ 59 ∷ 60 ∷ [])) 0b0110
+    ∷ row Ethernet (Port SrcAndDst None 0) (map (cut_to (to 80)) (23 ∷ 24 ∷ 34 ∷ 36 ∷ [])) 0b0110
+    ∷ row Ethernet (Port Src None 0x0400) (map (cut_to (to 80)) (34 ∷ 35 ∷ 36 ∷ [])) 0b010
+    ∷ row Ethernet (PortRange Dst None 0 79) (map (cut_to (to 80)) (36 ∷ 37 ∷ 38 ∷ [])) 0b110
+    ∷ row LinuxSll (Port Dst (Some Udp) 0) (map (cut_to (to_by6 80)) (22 ∷ 23 ∷ 59 ∷ 60 ∷ [])) 0b0110
     ∷ []
 
 shorts_hold : T (test shorts)
@@ -543,7 +544,7 @@ abbrev udp : Expr
 udp = Leaf (Protocol Udp)
 
 abbrev http : Expr
-http = Leaf (Port Dst none 80)
+http = Leaf (Port Dst None 80)
 
 abbrev from_a : Expr
 from_a = Leaf (Host4 Src a4)

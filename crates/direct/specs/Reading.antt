@@ -1,15 +1,17 @@
 -- The direct reading, from document 01, "The verdict on a frame", with RFC 791 and RFC 8200 for the fields' places. Every place, number
 -- and mask here is this file's own: nothing comes from the generator. "bytes past the end zero" is `be`.
+use Rattle.std.specs.Prelude.{Option, None, Some}
 use Rattle.std.specs.Prelude.{ℕ, ◌+◌, ◌*◌, ◌-◌, ◌/◌, ◌%◌, ◌^◌, List, [], ◌∷◌, Bool, true, false, not, ◌&&◌, ◌||◌, eqb, leb}
-use Rattle.std.proofs.Math.Option.{Option, none, some}
 use Rattle.std.specs.Int.Bits.{bit_and}
 use Rattle.bpf.specs.Bytes.{be}
 use Rattle.ast.specs.declared.LinkType.{LinkType}
 use Rattle.ast.specs.declared.LinkType.TheVariants.{Ethernet, RawIp, LinuxSll}
 use Rattle.ast.specs.declared.Dir.{Dir}
 use Rattle.ast.specs.declared.Dir.TheVariants.{SrcOrDst, Src, Dst, SrcAndDst}
-use Rattle.ast.specs.Tree.{Proto, Ip, Ip6, Arp, Rarp, Tcp, Udp, Icmp, Icmp6, Igmp, Sctp, Num, Ip6Proto}
-use Rattle.ast.specs.Tree.{Primitive, Protocol, Host4, Host6, Net, Net6, Port, PortRange, EtherHost, EtherProto, EtherMulticast, IpBroadcast, IpMulticast, Ip6Multicast, IpProtoChain, Ip6ProtoChain}
+use Rattle.ast.specs.declared.Proto.{Proto}
+use Rattle.ast.specs.declared.Proto.TheVariants.{Ip, Ip6, Arp, Rarp, Tcp, Udp, Icmp, Icmp6, Igmp, Sctp, Num, Ip6Proto}
+use Rattle.ast.specs.declared.Primitive.{Primitive}
+use Rattle.ast.specs.declared.Primitive.TheVariants.{Protocol, Host4, Host6, Net, Net6, Port, PortRange, EtherHost, EtherProto, EtherMulticast, IpBroadcast, IpMulticast, Ip6Multicast, IpProtoChain, Ip6ProtoChain}
 use Rattle.ast.specs.Tree.{Expr, Leaf, And, Or, Not}
 
 -- "n is 14, 0, 16 .. by link": where the network header starts
@@ -31,19 +33,19 @@ first p v = v / 2 ^ (16 - p)
 
 -- "Set: 6 and 17 for none"; Tcp, Udp and Sctp are 6, 17 and 132. The other protocols are number 6 in a build; here their set is empty
 abbrev pub port_set : Option Proto → ℕ → Bool
-port_set none q = eqb q 6 || eqb q 17
-port_set (some Tcp) q = eqb q 6
-port_set (some Udp) q = eqb q 17
-port_set (some Sctp) q = eqb q 132
-port_set (some Ip) q = false
-port_set (some Ip6) q = false
-port_set (some Arp) q = false
-port_set (some Rarp) q = false
-port_set (some Icmp) q = false
-port_set (some Icmp6) q = false
-port_set (some Igmp) q = false
-port_set (some (Num n)) q = false
-port_set (some (Ip6Proto n)) q = false
+port_set None q = eqb q 6 || eqb q 17
+port_set (Some Tcp) q = eqb q 6
+port_set (Some Udp) q = eqb q 17
+port_set (Some Sctp) q = eqb q 132
+port_set (Some Ip) q = false
+port_set (Some Ip6) q = false
+port_set (Some Arp) q = false
+port_set (Some Rarp) q = false
+port_set (Some Icmp) q = false
+port_set (Some Icmp6) q = false
+port_set (Some Igmp) q = false
+port_set (Some (Num n)) q = false
+port_set (Some (Ip6Proto n)) q = false
 
 module _ (f : List ℕ) where
   -- "Written b, h, w for a byte, 16 and 32 bits."

@@ -2,9 +2,3 @@
 #![tactic(auto)]
 
 use error::Refusal;
-
-#[derive(Clone, Copy)]
-pub enum DirectResult {
-    Is(bool),
-    Refused(Refusal),
-}

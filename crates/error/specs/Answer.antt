@@ -1,5 +1,5 @@
 -- Document 01's table of refusals, those that the requests add, and answers that may be one of them.
-use Rattle.std.specs.Prelude.{ℕ, List, [], ◌∷◌, Bool, false, ◌||◌, eqb, T}
+use Rattle.std.specs.Prelude.{ℕ, List, [], ◌∷◌, Bool, false, ◌||◌, eqb, T, Result, Ok, Err}
 use Rattle.error.specs.declared.Refusal.{Refusal}
 use Rattle.error.specs.declared.Refusal.TheVariants.{StrangeFile, WrongCount, BadRecord, NotOneTree, KindOnRaw, PortProtocol, EtherOnRaw, FarJump, ShortBuffer, LongFrame, OddProgram, NoCapture, OtherLink, CutFrame, CookedAddress, UnknownWord, Unfinished, TooLarge, CountMoved}
 
@@ -39,12 +39,11 @@ abbrev pub Numbered : List ℕ → Refusal → Type 0
 Numbered ms r = T (among ms (number_of r))
 
 -- a value, or a refusal
-pub data Out (A : Type 0) : Type 0 where
-  refused : Refusal → Out A
-  done : A → Out A
+abbrev pub Out : Type 0 → Type 0
+Out A = Result A Refusal
 
 -- what is refused first is the answer
 infixl 10 ◌>>=◌
 abbrev pub ◌>>=◌ : {A B : Type 0} → Out A → (A → Out B) → Out B
-◌>>=◌ (refused r) k = refused r
-◌>>=◌ (done a) k = k a
+◌>>=◌ (Err r) k = Err r
+◌>>=◌ (Ok a) k = k a

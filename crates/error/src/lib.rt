@@ -4,52 +4,34 @@
 ghost use Rattle.std.specs.Prelude.{◌≡◌, ◌≤◌, ◌<◌};
 ghost use Rattle.error.specs.Answer.{number_of};
 
-#[derive(Clone, Copy)]
+#[derive(Clone, Copy, Debug, PartialEq, Eq, PartialOrd, Ord, Hash)]
 pub enum Refusal {
-    StrangeFile,
-    WrongCount,
-    BadRecord,
-    NotOneTree,
-    KindOnRaw,
-    PortProtocol,
-    EtherOnRaw,
-    FarJump,
-    ShortBuffer,
-    LongFrame,
-    OddProgram,
-    NoCapture,
-    OtherLink,
-    CutFrame,
-    CookedAddress,
-    UnknownWord,
-    Unfinished,
-    TooLarge,
-    CountMoved,
+    StrangeFile = 1,
+    WrongCount = 2,
+    BadRecord = 3,
+    NotOneTree = 4,
+    KindOnRaw = 5,
+    PortProtocol = 6,
+    EtherOnRaw = 7,
+    FarJump = 8,
+    ShortBuffer = 9,
+    LongFrame = 10,
+    OddProgram = 11,
+    NoCapture = 12,
+    OtherLink = 13,
+    CutFrame = 14,
+    CookedAddress = 15,
+    UnknownWord = 16,
+    Unfinished = 17,
+    TooLarge = 18,
+    CountMoved = 19,
 }
 
 // The number, which is not 0 and takes a byte.
-pub fn refusal_number(refusal: Refusal) -> u32
-    ensures { (result ≡ number_of refusal) × (1 ≤ result) × (result < 256) }
-{
-    match refusal {
-        Refusal::StrangeFile => 1,
-        Refusal::WrongCount => 2,
-        Refusal::BadRecord => 3,
-        Refusal::NotOneTree => 4,
-        Refusal::KindOnRaw => 5,
-        Refusal::PortProtocol => 6,
-        Refusal::EtherOnRaw => 7,
-        Refusal::FarJump => 8,
-        Refusal::ShortBuffer => 9,
-        Refusal::LongFrame => 10,
-        Refusal::OddProgram => 11,
-        Refusal::NoCapture => 12,
-        Refusal::OtherLink => 13,
-        Refusal::CutFrame => 14,
-        Refusal::CookedAddress => 15,
-        Refusal::UnknownWord => 16,
-        Refusal::Unfinished => 17,
-        Refusal::TooLarge => 18,
-        Refusal::CountMoved => 19,
+impl From<Refusal> for u32 {
+    ghost from_gives = { λ refusal n. (n ≡ number_of refusal) × (1 ≤ n) × (n < 256) };
+
+    fn from(refusal: Refusal) -> u32 {
+        refusal as u32
     }
 }

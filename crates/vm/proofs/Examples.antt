@@ -1,9 +1,10 @@
 -- Runs of the machine, as one table with one theorem. The verdicts are those of vm.rs, and the steps those of a copy of it that counts what
 -- it fetches and tells a load that leaves the frame from the rest of Rust's None. The numbers of refusals are document 01's.
+use Rattle.std.specs.Prelude.{Option, None, Some}
+use Rattle.error.specs.Answer.{Out}
 use Prim.Native.Nat.{ℕ, zero, suc, ◌+◌}
 use mathlib.Core.List.{List, [], ◌∷◌, ◌++◌}
 use mathlib.Core.Bool.{Bool, true, false, cond, not, ◌&&◌, ◌||◌}
-use mathlib.Core.Option.{Option, none, some}
 use lib.ListN.{replicate}
 use lib.Dec.{eqb, T}
 use Rattle.bpf.specs.declared.Insn.{Insn}
@@ -12,7 +13,6 @@ use Rattle.bpf.specs.Program.{insn, insn_at, insns_at}
 use Rattle.vm.specs.declared.Verdict.{Verdict}
 use Rattle.vm.specs.declared.Verdict.TheVariants.{Accepted, Dropped, Short, Broken}
 use Rattle.vm.specs.declared.Outcome.{Outcome}
-use Rattle.vm.specs.declared.RunResult.{RunResult}
 use Rattle.vm.specs.Machine.{load, sized_load, scratch, ld, ldx, alu, jmp, effect, exec, inner, run, refusal_of, inner_of, number_of_verdict, verdict_of, steps_of}
 
 data Row : Type 0 where
@@ -62,7 +62,7 @@ abbrev same : Outcome → Verdict → ℕ → Bool
 same o v n = eqb (number_of_verdict o.verdict) (number_of_verdict v) && eqb o.steps n
 
 -- refusal, verdict and steps of a run's answer
-abbrev valued : RunResult → ℕ → ℕ → ℕ → Bool
+abbrev valued : Out Outcome → ℕ → ℕ → ℕ → Bool
 valued r n v t = eqb (refusal_of r) n && (eqb (verdict_of r) v && eqb (steps_of r) t)
 
 abbrev member : ℕ → List ℕ → Bool
@@ -74,10 +74,10 @@ equal true b = b
 equal false b = not b
 
 abbrev alike : Option Bool → Option Bool → Bool
-alike none none = true
-alike none (some b) = false
-alike (some a) none = false
-alike (some a) (some b) = equal a b
+alike None None = true
+alike None (Some b) = false
+alike (Some a) None = false
+alike (Some a) (Some b) = equal a b
 
 -- of the codes below n, those of the list are broken and no others
 unknown_below : ℕ → List ℕ → Bool
@@ -239,15 +239,15 @@ table =
     ∷ unknown unknowns
     -- what vm.rs answers: for a return its truth; None for two loads past the frame's end, an unknown code, size 0x18, no scratch word,
     -- divisor 0 and no next instruction
-    ∷ answers (op 0x06 1 ∷ []) five (some true)
-    ∷ answers (op 0x06 0 ∷ []) five (some false)
-    ∷ answers (op 0x30 5 ∷ ends) five none
-    ∷ answers (op 0xb1 5 ∷ ends) five none
-    ∷ answers (op 0x94 5 ∷ ends) five none
-    ∷ answers (op 0x38 0 ∷ ends) five none
-    ∷ answers (op 0x60 16 ∷ ends) five none
-    ∷ answers (op 0x34 0 ∷ ends) five none
-    ∷ answers (op 0x00 1 ∷ []) five none
+    ∷ answers (op 0x06 1 ∷ []) five (Some true)
+    ∷ answers (op 0x06 0 ∷ []) five (Some false)
+    ∷ answers (op 0x30 5 ∷ ends) five None
+    ∷ answers (op 0xb1 5 ∷ ends) five None
+    ∷ answers (op 0x94 5 ∷ ends) five None
+    ∷ answers (op 0x38 0 ∷ ends) five None
+    ∷ answers (op 0x60 16 ∷ ends) five None
+    ∷ answers (op 0x34 0 ∷ ends) five None
+    ∷ answers (op 0x00 1 ∷ []) five None
     -- two filters of document 01: Ip, and Tcp with Tcp destination port 80
     ∷ runs ip (replicate 13 0) Short 1
     ∷ runs ip (replicate 12 0 ++ (8 ∷ 0 ∷ [])) Accepted 3

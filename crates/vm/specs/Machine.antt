@@ -1,7 +1,9 @@
 -- "The machine is `inner` in vm.rs: A, X, 16 scratch words, 32-bit sums that wrap, big-endian loads."
 -- The classes, sizes, modes and operations are those of the BPF paper (1993) with the numbers of Linux's filter header.
+use Rattle.std.specs.Prelude.{Option, None, Some}
+use Rattle.std.specs.Prelude.{Ok, Err}
+use Rattle.error.specs.Answer.{Out}
 use Rattle.std.specs.Prelude.{ℕ, zero, suc, ◌+◌, ◌*◌, ◌-◌, ◌/◌, ◌%◌, ◌^◌, List, [], ◌∷◌, false, true, Bool, cond, not, ◌||◌, length, get_or, set, replicate, ltb, leb, eqb}
-use Rattle.std.proofs.Math.Option.{Option, none, some}
 use Rattle.std.specs.Int.Bits.{bit_and, bit_or, bit_xor}
 use Rattle.error.specs.declared.Refusal.TheVariants.{LongFrame, OddProgram}
 use Rattle.error.specs.Answer.{number_of}
@@ -11,8 +13,6 @@ use Rattle.bpf.specs.Program.{insns_at}
 use Rattle.vm.specs.declared.Verdict.{Verdict}
 use Rattle.vm.specs.declared.Verdict.TheVariants.{Accepted, Dropped, Short, Broken}
 use Rattle.vm.specs.declared.Outcome.{Outcome}
-use Rattle.vm.specs.declared.RunResult.{RunResult}
-use Rattle.vm.specs.declared.RunResult.TheVariants.{Ran, Refused}
 use Rattle.vm.specs.declared.Effect.{Effect}
 use Rattle.vm.specs.declared.Effect.TheVariants.{SetA, SetX, Store, Skip, Stop}
 
@@ -137,22 +137,22 @@ abbrev pub odd_program : List ℕ → Bool
 odd_program p = eqb (length p) 0 || (ltb 32768 (length p) || not (eqb (length p % 8) 0))
 
 -- the bytes of a program, run over a frame: "A run tests 11, then 10, and writes to no buffer"
-unfoldable pub run : List ℕ → List ℕ → RunResult
-run p f = cond (odd_program p) (Refused OddProgram) (cond (long_frame f) (Refused LongFrame) (Ran (inner (insns_at (length p / 8) 0 p) f)))
+unfoldable pub run : List ℕ → List ℕ → Out Outcome
+run p f = cond (odd_program p) (Err OddProgram) (cond (long_frame f) (Err LongFrame) (Ok (inner (insns_at (length p / 8) 0 p) f)))
 
 -- ---- the values of a run's answer
 
 -- the refusal's number; 0 for a run that was made
-abbrev pub refusal_of : RunResult → ℕ
-refusal_of (Ran o) = 0
-refusal_of (Refused r) = number_of r
+abbrev pub refusal_of : Out Outcome → ℕ
+refusal_of (Ok o) = 0
+refusal_of (Err r) = number_of r
 
 -- what `inner` of vm.rs answers: "Rust's None is short or broken."
 abbrev pub inner_of : Verdict → Option Bool
-inner_of Accepted = some true
-inner_of Dropped = some false
-inner_of Short = none
-inner_of Broken = none
+inner_of Accepted = Some true
+inner_of Dropped = Some false
+inner_of Short = None
+inner_of Broken = None
 
 -- accepted, dropped, short, broken: 1 to 4
 abbrev pub number_of_verdict : Verdict → ℕ
@@ -162,10 +162,10 @@ number_of_verdict Short = 3
 number_of_verdict Broken = 4
 
 -- "a refused run has no verdict and 0 steps": 0 for no verdict
-abbrev pub verdict_of : RunResult → ℕ
-verdict_of (Ran o) = number_of_verdict o.verdict
-verdict_of (Refused r) = 0
+abbrev pub verdict_of : Out Outcome → ℕ
+verdict_of (Ok o) = number_of_verdict o.verdict
+verdict_of (Err r) = 0
 
-abbrev pub steps_of : RunResult → ℕ
-steps_of (Ran o) = o.steps
-steps_of (Refused r) = 0
+abbrev pub steps_of : Out Outcome → ℕ
+steps_of (Ok o) = o.steps
+steps_of (Err r) = 0

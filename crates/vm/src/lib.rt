@@ -4,31 +4,23 @@
 ghost use Rattle.std.specs.Prelude.{◌≡◌, ◌≤◌};
 ghost use Rattle.vm.specs.Machine.{number_of_verdict};
 
-use error::Refusal;
-
-#[derive(Clone, Copy)]
+#[derive(Clone, Copy, Debug, PartialEq, Eq)]
 pub enum Verdict {
-    Accepted,
-    Dropped,
-    Short,
-    Broken,
+    Accepted = 1,
+    Dropped = 2,
+    Short = 3,
+    Broken = 4,
 }
 
 // A run's verdict, and how many instructions it fetched.
-#[derive(Clone, Copy)]
+#[derive(Clone, Copy, Debug, PartialEq, Eq)]
 pub struct Outcome {
     pub verdict: Verdict,
     pub steps: u32,
 }
 
-#[derive(Clone, Copy)]
-pub enum RunResult {
-    Ran(Outcome),
-    Refused(Refusal),
-}
-
 // What one instruction does: it sets A, X or a scratch word, skips some of the following instructions, or ends the run.
-#[derive(Clone, Copy)]
+#[derive(Clone, Copy, Debug, PartialEq, Eq)]
 pub enum Effect {
     SetA(u32),
     SetX(u32),
@@ -37,13 +29,10 @@ pub enum Effect {
     Stop(Verdict),
 }
 
-pub fn verdict_number(v: Verdict) -> u32
-    ensures { (result ≡ number_of_verdict v) × (result ≤ 4) }
-{
-    match v {
-        Verdict::Accepted => 1,
-        Verdict::Dropped => 2,
-        Verdict::Short => 3,
-        Verdict::Broken => 4,
+impl From<Verdict> for u32 {
+    ghost from_gives = { λ verdict n. (n ≡ number_of_verdict verdict) × (n ≤ 4) };
+
+    fn from(verdict: Verdict) -> u32 {
+        verdict as u32
     }
 }
