@@ -16,7 +16,12 @@ use Rattle.ast.specs.declared.Dir.{Dir}
 use Rattle.ast.specs.declared.Dir.TheVariants.{SrcOrDst, Src, Dst, SrcAndDst}
 use Rattle.ast.proofs.Proper.{Byte, Half, each_bytes}
 use Rattle.direct.specs.Reading.{sides, first, segments_agree, bytes_are}
-use Rattle.codegen.specs.Block.{Width, half, word, bytes, ld_abs, ldh_ind, and_k, jeq, jgt, jge, op}
+use Rattle.codegen.specs.declared.Width.{Width}
+use Rattle.codegen.specs.declared.Width.TheVariants as W
+use Rattle.codegen.specs.declared.Op.TheVariants.{LdAbs, LdhInd, AndK}
+use Rattle.codegen.specs.declared.Test.TheVariants.{Jeq, Jgt, Jge}
+use Rattle.codegen.specs.declared.Line.TheVariants.{Plain}
+use Rattle.codegen.specs.Block.{bytes}
 use Rattle.codegen.specs.Block.{Block, writes_x}
 use Rattle.codegen.specs.Emit.{check, need, check_loads, check_blocks, check_ip6_addr, mask16, segment, check_net6, check_range, check_mac}
 use Rattle.codegen.proofs.Semantics.{indexed}
@@ -28,27 +33,27 @@ abbrev pub Fetches : List ℕ → (ℕ → Type 0) → Block → ℕ → Type 0
 Fetches f G b v = Decides f Never (OfX G) b true (With v G)
 
 module _ {f : List ℕ} {G : ℕ → Type 0} where
-  pub fetched : (w : Width) (k : ℕ) → Fetches f G (op (ld_abs w k) ∷ []) (be (bytes w) k f)
+  pub fetched : (w : Width) (k : ℕ) → Fetches f G (Plain (LdAbs w k) ∷ []) (be (bytes w) k f)
   fetched w k = load w k (known (λ a x g. (refl, g)))
 
-  pub fetched_masked : (w : Width) (k m : ℕ) → Fetches f G (op (ld_abs w k) ∷ op (and_k m) ∷ []) (bit_and (be (bytes w) k f) m)
+  pub fetched_masked : (w : Width) (k m : ℕ) → Fetches f G (Plain (LdAbs w k) ∷ Plain (AndK m) ∷ []) (bit_and (be (bytes w) k f) m)
   fetched_masked w k m = load w k (masked m (known (λ a x g. (refl, g))))
 
-  pub fetched_indexed : (k y : ℕ) → ((x : ℕ) → G x → indexed x k ≡ y) → Fetches f G (op (ldh_ind k) ∷ []) (be 2 y f)
+  pub fetched_indexed : (k y : ℕ) → ((x : ℕ) → G x → indexed x k ≡ y) → Fetches f G (Plain (LdhInd k) ∷ []) (be 2 y f)
   fetched_indexed k y e = load_indexed k y e (known (λ a x g. (refl, g)))
 
   pub checked : (w : Width) (at k : ℕ) → Decides f Never (OfX G) (check w at k) (eqb (be (bytes w) at f) k) (OfX G)
-  checked w at k = load w at (lastly jeq k)
+  checked w at k = load w at (lastly Jeq k)
 
   -- ---- two places, by direction
 
   pub two_loads : (d : Dir) (k : ℕ) {s t : Block} {v w : ℕ} → Fetches f G s v → Fetches f G t w
       → Decides f Maybe (OfX G) (check_loads d k s t) (sides d (eqb v k) (eqb w k)) (OfX G)
   unfolding check_loads
-  two_loads SrcOrDst k h j = seq h (winning jeq k (given (λ a x g. g.1) (seq j (lastly jeq k))))
-  two_loads Src k h j = seq h (lastly jeq k)
-  two_loads Dst k h j = seq j (lastly jeq k)
-  two_loads SrcAndDst k h j = seq h (needed jeq k (given (λ a x g. g.1) (seq j (lastly jeq k))))
+  two_loads SrcOrDst k h j = seq h (winning Jeq k (given (λ a x g. g.1) (seq j (lastly Jeq k))))
+  two_loads Src k h j = seq h (lastly Jeq k)
+  two_loads Dst k h j = seq j (lastly Jeq k)
+  two_loads SrcAndDst k h j = seq h (needed Jeq k (given (λ a x g. g.1) (seq j (lastly Jeq k))))
 
   pub two_blocks : (d : Dir) {s t : Block} {P Q : Bool} → writes_x s ≡ false → Decides f Never (OfX G) s P (OfX G) → Decides f Never (OfX G) t Q (OfX G)
       → Decides f Maybe (OfX G) (check_blocks d s t) (sides d P Q) (OfX G)
@@ -65,7 +70,7 @@ module _ {f : List ℕ} {G : ℕ → Type 0} where
   unfolding check_range
   range_decides k y lo hi e =
       load_indexed k y e
-      (equal (ap (λ b. leb lo (be 2 y f) && b) (and-true _ ∙ not_lt hi (be 2 y f))) (needed jge lo (barred jgt hi (known (λ a x h. (refl, h.1))))))
+      (equal (ap (λ b. leb lo (be 2 y f) && b) (and-true _ ∙ not_lt hi (be 2 y f))) (needed Jge lo (barred Jgt hi (known (λ a x h. (refl, h.1))))))
 
 pub range_keeps : (lo hi at : ℕ) → writes_x (check_range lo hi at) ≡ false
 unfolding check_range writes_x
@@ -102,7 +107,7 @@ net_keeps p at [] = refl
 net_keeps p at (s ∷ ss) = go (eqb p 0) (leb 16 p) (check_net6 (p - 16) (at + 2) ss) (net_keeps (p - 16) (at + 2) ss)
   where
     go : (z w : Bool) (k : Block) → writes_x k ≡ false
-        → writes_x (cond z [] (cond w (check half at s) (op (ld_abs half at) ∷ op (and_k (mask16 p)) ∷ need (bit_and s (mask16 p)) ∷ []) ++ k)) ≡ false
+        → writes_x (cond z [] (cond w (check W.Half at s) (Plain (LdAbs W.Half at) ∷ Plain (AndK (mask16 p)) ∷ need (bit_and s (mask16 p)) ∷ []) ++ k)) ≡ false
     go true w k h = refl
     go false true k h = h
     go false false k h = h
@@ -122,17 +127,17 @@ module _ (f : List ℕ) (bytes_of : AreBytes f) where
     unfolding check_ip6_addr segments_agree
     addr_decides p at [] h = known (λ a x g. (refl, g))
     addr_decides p at (s ∷ ss) h =
-        seq (equal (sym (ap₂ eqb (whole p (be 2 at f) (omega arith)) (whole p s (omega arith)))) (checked half at s)) (addr_decides (p - 16) (at + 2) ss (omega arith))
+        seq (equal (sym (ap₂ eqb (whole p (be 2 at f) (omega arith)) (whole p s (omega arith)))) (checked W.Half at s)) (addr_decides (p - 16) (at + 2) ss (omega arith))
 
     segment_decides : (p at s : ℕ) → Half s → Decides f Never (OfX G) (segment p at s) (eqb (first p (be 2 at f)) (first p s)) (OfX G)
     segment_decides p at s h = go (leb 16 p) refl
       where
         go : (t : Bool) → leb 16 p ≡ t
-            → Decides f Never (OfX G) (cond t (check half at s) (op (ld_abs half at) ∷ op (and_k (mask16 p)) ∷ need (bit_and s (mask16 p)) ∷ []))
+            → Decides f Never (OfX G) (cond t (check W.Half at s) (Plain (LdAbs W.Half at) ∷ Plain (AndK (mask16 p)) ∷ need (bit_and s (mask16 p)) ∷ []))
             (eqb (first p (be 2 at f)) (first p s)) (OfX G)
-        go true e = equal (sym (ap₂ eqb (whole p (be 2 at f) (leb-true 16 p e)) (whole p s (leb-true 16 p e)))) (checked half at s)
+        go true e = equal (sym (ap₂ eqb (whole p (be 2 at f) (leb-true 16 p e)) (whole p s (leb-true 16 p e)))) (checked W.Half at s)
         go false e =
-            equal (part p (be 2 at f) s (leb-false 16 p e) (half_small at) h) (load half at (masked (mask16 p) (lastly jeq (bit_and s (mask16 p)))))
+            equal (part p (be 2 at f) s (leb-false 16 p e) (half_small at) h) (load W.Half at (masked (mask16 p) (lastly Jeq (bit_and s (mask16 p)))))
 
     pub net_decides : (p at : ℕ) (ss : List ℕ) → Each Half ss → Decides f Never (OfX G) (check_net6 p at ss) (segments_agree f p at ss) (OfX G)
     unfolding check_net6 segments_agree
@@ -188,4 +193,4 @@ module _ (f : List ℕ) (bytes_of : AreBytes f) where
   unfolding check_mac
   mac_decides a at e h =
       equal (ap₂ ◌&&◌ (be_eqb 4 at f 0 a bytes_of (each_bytes a h)) (be_eqb 2 (at + 4) f 4 a bytes_of (each_bytes a h)) ∙ mac_agrees at a e)
-      (seq (checked word at (be 4 0 a)) (checked half (at + 4) (be 2 4 a)))
+      (seq (checked W.Word at (be 4 0 a)) (checked W.Half (at + 4) (be 2 4 a)))

@@ -1,9 +1,9 @@
 -- Every condition: what the generator emits for it decides what the direct reading says of it.
+use Rattle.std.specs.Prelude.{Option, None, Some}
 use Prim.Native.Nat.{ℕ, ◌+◌, ◌*◌, ◌%◌, ◌^◌, ◌≤◌}
 use mathlib.Core.Path.{◌≡◌, refl, sym, ap, ◌∙◌}
 use mathlib.Core.List.{List}
 use mathlib.Core.Bool.{Bool, true, false, cond, ◌&&◌, ◌||◌, and-true, and_comm, and_assoc, or_comm, or-false}
-use mathlib.Core.Option.{Option, none, some}
 use native.Mathlib.Omega.{arith}
 use native.Mathlib.Nat.{mod-lt}
 use lib.Dec.{eqb, leb, lit<, lit≤}
@@ -16,16 +16,18 @@ use Rattle.ast.specs.declared.LinkType.{LinkType}
 use Rattle.ast.specs.declared.LinkType.TheVariants.{Ethernet, RawIp, LinuxSll}
 use Rattle.ast.specs.declared.Dir.{Dir}
 use Rattle.ast.specs.declared.Dir.TheVariants.{SrcOrDst, Src, Dst, SrcAndDst}
-use Rattle.ast.specs.Tree.{Proto, Ip, Ip6, Arp, Rarp, Tcp, Udp, Icmp, Icmp6, Igmp, Sctp, Num, Ip6Proto}
-use Rattle.ast.specs.Tree.{Primitive, Protocol, Host4, Host6, Net, Net6, Port, PortRange, EtherHost, EtherProto, EtherMulticast, IpBroadcast, IpMulticast, Ip6Multicast, IpProtoChain, Ip6ProtoChain}
+use Rattle.ast.specs.declared.Proto.{Proto}
+use Rattle.ast.specs.declared.Proto.TheVariants.{Ip, Ip6, Arp, Rarp, Tcp, Udp, Icmp, Icmp6, Igmp, Sctp, Num, Ip6Proto}
+use Rattle.ast.specs.declared.Primitive.{Primitive}
+use Rattle.ast.specs.declared.Primitive.TheVariants.{Protocol, Host4, Host6, Net, Net6, Port, PortRange, EtherHost, EtherProto, EtherMulticast, IpBroadcast, IpMulticast, Ip6Multicast, IpProtoChain, Ip6ProtoChain}
 use Rattle.ast.proofs.Proper.{ProperPrimitive}
 use Rattle.direct.specs.Reading.{network_start, sides, port_set, kind, ipv4, ipv6, reads_proto, transport, port_test, bytes_are, from_station, to_station, to_many, reads_primitive}
 use Rattle.codegen.specs.declared.L4Set.{L4Set}
-use Rattle.codegen.specs.declared.Known.{Known}
 use Rattle.codegen.specs.declared.Facts.{Facts}
 use Rattle.codegen.specs.Facts.{contains, holds, learn_ip4, learn_ip6}
 use Rattle.codegen.specs.Protocols.{l4set_for}
-use Rattle.codegen.specs.Block.{byte, half, word, jeq, jset}
+use Rattle.codegen.specs.declared.Width.TheVariants.{Byte, Half, Word}
+use Rattle.codegen.specs.declared.Test.TheVariants.{Jeq, Jset}
 use Rattle.codegen.specs.Block.{Block}
 use Rattle.codegen.specs.Emit.{net_offset, ether_proto_offset, Code, ethertype_at, emit_ethertype, guarded, emit_l4, emit_ip4_l4, emit_ip6_l4, emit_proto, port_prereqs, ported, turned, check_mac, by_link, no_address, sender, ether, emit_primitive}
 use Rattle.codegen.proofs.Semantics.{indexed}
@@ -47,7 +49,7 @@ start_small Ethernet = lit≤ tt
 start_small RawIp = lit≤ tt
 start_small LinuxSll = lit≤ tt
 
-kind_none : (L : LinkType) (f : List ℕ) (v : ℕ) → ether_proto_offset L ≡ none → eqb v 0x0800 ≡ kind L f v
+kind_none : (L : LinkType) (f : List ℕ) (v : ℕ) → ether_proto_offset L ≡ None → eqb v 0x0800 ≡ kind L f v
 unfolding kind
 kind_none Ethernet f v e = let z : ◌≡◌ {A = ℕ} 0 1 = cc in absurd (omega arith)
 kind_none RawIp f v e = refl
@@ -68,19 +70,19 @@ by_link_lem q LinuxSll b cooked h j = j
 
 -- the generator's sets are those of the direct reading
 pub set_same : (p : Option Proto) → All (λ want. (q : ℕ) → port_set p q ≡ contains want q) (l4set_for p)
-set_same none = λ q. refl
-set_same (some Tcp) = λ q. refl
-set_same (some Udp) = λ q. refl
-set_same (some Sctp) = λ q. refl
-set_same (some Ip) = tt
-set_same (some Ip6) = tt
-set_same (some Arp) = tt
-set_same (some Rarp) = tt
-set_same (some Icmp) = tt
-set_same (some Icmp6) = tt
-set_same (some Igmp) = tt
-set_same (some (Num n)) = tt
-set_same (some (Ip6Proto n)) = tt
+set_same None = λ q. refl
+set_same (Some Tcp) = λ q. refl
+set_same (Some Udp) = λ q. refl
+set_same (Some Sctp) = λ q. refl
+set_same (Some Ip) = tt
+set_same (Some Ip6) = tt
+set_same (Some Arp) = tt
+set_same (Some Rarp) = tt
+set_same (Some Icmp) = tt
+set_same (Some Icmp6) = tt
+set_same (Some Igmp) = tt
+set_same (Some (Num n)) = tt
+set_same (Some (Ip6Proto n)) = tt
 
 -- a version's conditions and its test, gathered
 gather : (k4 k6 s4 z s6 t4 t6 : Bool) → (k4 ≡ true → k6 ≡ false)
@@ -108,11 +110,11 @@ module _ (L : LinkType) (f : List ℕ) where
   ethertype_emits v g r = go (ether_proto_offset L) refl
     where
       go : (o : Option ℕ) → ether_proto_offset L ≡ o → All (Emits Never g (kind L f v)) (ethertype_at o v g)
-      go none e = all_cond _ (eqb v 0x0800) _ _ (λ t. record { decides = known (λ a x h. (sym (kind_none L f v e) ∙ t, h)); raw = r }) (λ t. tt)
-      go (some off) e =
+      go None e = all_cond _ (eqb v 0x0800) _ _ (λ t. record { decides = known (λ a x h. (sym (kind_none L f v e) ∙ t, h)); raw = r }) (λ t. tt)
+      go (Some off) e =
           all_cond _ (holds g.ethertype v) _ _
           (λ t. record { decides = known (λ a x h. (says_holds g.ethertype v (Passes (kind L f)) h.ethertype t, h)); raw = r })
-          (λ t. record { decides = learning (λ a x p h. holds_ethertype L f g v x h p) (equal (kind_at L f off v e) (checked half off v)); raw = raw_fill L g.ethertype v r })
+          (λ t. record { decides = learning (λ a x p h. holds_ethertype L f g v x h p) (equal (kind_at L f off v e) (checked Half off v)); raw = raw_fill L g.ethertype v r })
 
   guarded_emits : (S : Type 0) (v : ℕ) (b : Block) (Q : Bool) (g : Facts) → Raw L g.ethertype
       → ((G : ℕ → Type 0) → Decides f S (OfX G) b Q (OfX G)) → All (Emits S g (kind L f v && Q)) (guarded L v b g)
@@ -121,7 +123,7 @@ module _ (L : LinkType) (f : List ℕ) where
       all_bind (Emits Never g (kind L f v)) (Emits S g (kind L f v && Q)) (emit_ethertype L v g) _ (ethertype_emits v g r)
       (λ c k. record { decides = seq k.decides (h (Holds L f c.facts)); raw = k.raw })
 
-  l4_emits : (v at : ℕ) (get : Facts → Known) (learn : Facts → ℕ → Facts) (p : ℕ) (g : Facts) → Raw L g.ethertype
+  l4_emits : (v at : ℕ) (get : Facts → Option ℕ) (learn : Facts → ℕ → Facts) (p : ℕ) (g : Facts) → Raw L g.ethertype
       → ((g : Facts) (x : ℕ) → Holds L f g x → Says (get g) (Passes (eqb (be 1 at f))))
       → ((g : Facts) (p x : ℕ) → Holds L f g x → eqb (be 1 at f) p ≡ true → Holds L f (learn g p) x)
       → ((g : Facts) (p : ℕ) → (learn g p).ethertype ≡ g.ethertype)
@@ -131,7 +133,7 @@ module _ (L : LinkType) (f : List ℕ) where
       all_bind (Emits Never g (kind L f v)) _ (emit_ethertype L v g) _ (ethertype_emits v g r)
       (λ c k. all_cond _ (holds (get c.facts) p) _ _
       (λ e. record { decides = also (eqb (be 1 at f) p) (λ a x h. says_holds (get c.facts) p (Passes (eqb (be 1 at f))) (has c.facts x h) e) k.decides; raw = k.raw })
-      (λ e. record { decides = seq k.decides (learning (λ a x q h. adds c.facts p x h q) (checked byte at p)); raw = rw (keeps c.facts p) k.raw }))
+      (λ e. record { decides = seq k.decides (learning (λ a x q h. adds c.facts p x h q) (checked Byte at p)); raw = rw (keeps c.facts p) k.raw }))
 
   pub ip4_emits : (p : ℕ) (g : Facts) → Raw L g.ethertype → All (Emits Never g (ipv4 L f p)) (emit_ip4_l4 L p g)
   unfolding ipv4
@@ -214,7 +216,7 @@ module _ (L : LinkType) (f : List ℕ) where
   sender_decides : AreBytes f → (d : Dir) (a : List ℕ) → ProperPrimitive (EtherHost d a) → (G : ℕ → Type 0)
       → All (λ k. Decides f Maybe (OfX G) k (sides d (from_station LinuxSll f a) (to_station LinuxSll f a)) (OfX G)) (sender d (check_mac a 6))
   sender_decides z SrcOrDst a h G = tt
-  sender_decides z Src a h G = allow (seq (checked half 4 6) (mac_decides f z a 6 h.0 h.1))
+  sender_decides z Src a h G = allow (seq (checked Half 4 6) (mac_decides f z a 6 h.0 h.1))
   sender_decides z Dst a h G = tt
   sender_decides z SrcAndDst a h G = tt
 
@@ -223,14 +225,14 @@ module _ (L : LinkType) (f : List ℕ) where
   unfolding reads_primitive emit_primitive
   condition_emits z (Protocol p) h g r = loosely (reads_proto L f p) g (emit_proto L p g) (proto_emits p g r)
   condition_emits z (Host4 d a) h g r =
-      rw (start L) (guarded_emits Maybe 0x0800 _ _ g r (λ G. two_loads d a (fetched word (net_offset L + 12)) (fetched word (net_offset L + 16))))
+      rw (start L) (guarded_emits Maybe 0x0800 _ _ g r (λ G. two_loads d a (fetched Word (net_offset L + 12)) (fetched Word (net_offset L + 16))))
   condition_emits z (Host6 d a) h g r =
       rw (start L)
       (guarded_emits Maybe 0x86dd _ _ g r
       (λ G. two_blocks d (addr_keeps (net_offset L + 8) a) (addr_decides f z 128 (net_offset L + 8) a (omega (arith, h.0))) (addr_decides f z 128 (net_offset L + 24) a (omega (arith, h.0)))))
   condition_emits z (Net d a m) h g r =
       rw (start L)
-      (guarded_emits Maybe 0x0800 _ _ g r (λ G. two_loads d (bit_and a m) (fetched_masked word (net_offset L + 12) m) (fetched_masked word (net_offset L + 16) m)))
+      (guarded_emits Maybe 0x0800 _ _ g r (λ G. two_loads d (bit_and a m) (fetched_masked Word (net_offset L + 12) m) (fetched_masked Word (net_offset L + 16) m)))
   condition_emits z (Net6 d p a) h g r =
       rw (start L)
       (guarded_emits Maybe 0x86dd _ _ g r
@@ -246,12 +248,12 @@ module _ (L : LinkType) (f : List ℕ) where
       (equal (sides_turned d (bytes_are f 6 a) (bytes_are f 0 a)) (two_blocks (turned d) (mac_keeps a 0) (mac_decides f z a 0 h.0 h.1) (mac_decides f z a 6 h.0 h.1)))
       (sender_decides z d a h (Holds L f g))
   condition_emits z (EtherProto v) h g r = loosely (kind L f v) g (emit_ethertype L v g) (ethertype_emits v g r)
-  condition_emits z EtherMulticast h g r = ether_emits _ no_address (λ l. to_many l f) g r (equal (low_one (be 1 0 f)) (load byte 0 (lastly jset 1))) tt
-  condition_emits z IpBroadcast h g r = rw (start L) (guarded_emits Maybe 0x0800 _ _ g r (λ G. allow (checked word (net_offset L + 16) 0xffff_ffff)))
+  condition_emits z EtherMulticast h g r = ether_emits _ no_address (λ l. to_many l f) g r (equal (low_one (be 1 0 f)) (load Byte 0 (lastly Jset 1))) tt
+  condition_emits z IpBroadcast h g r = rw (start L) (guarded_emits Maybe 0x0800 _ _ g r (λ G. allow (checked Word (net_offset L + 16) 0xffff_ffff)))
   condition_emits z IpMulticast h g r =
       rw (start L)
       (guarded_emits Maybe 0x0800 _ _ g r
-      (λ G. equal (top_bits (be 4 (net_offset L + 16) f) (be_small 4 (net_offset L + 16) f z)) (load word (net_offset L + 16) (masked 0xf000_0000 (lastly jeq 0xe000_0000)))))
-  condition_emits z Ip6Multicast h g r = rw (start L) (guarded_emits Maybe 0x86dd _ _ g r (λ G. allow (checked byte (net_offset L + 24) 0xff)))
+      (λ G. equal (top_bits (be 4 (net_offset L + 16) f) (be_small 4 (net_offset L + 16) f z)) (load Word (net_offset L + 16) (masked 0xf000_0000 (lastly Jeq 0xe000_0000)))))
+  condition_emits z Ip6Multicast h g r = rw (start L) (guarded_emits Maybe 0x86dd _ _ g r (λ G. allow (checked Byte (net_offset L + 24) 0xff)))
   condition_emits z (IpProtoChain p) h g r = loosely (ipv4 L f p) g (emit_ip4_l4 L p g) (ip4_emits p g r)
   condition_emits z (Ip6ProtoChain p) h g r = loosely (ipv6 L f p) g (emit_ip6_l4 L p g) (ip6_emits p g r)

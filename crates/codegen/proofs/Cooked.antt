@@ -1,30 +1,30 @@
 -- T-03's page: the number that a tree meets on LinuxSll, and the trees that keep their programs.
+use Rattle.std.specs.Prelude.{Option, None, Some}
+use Rattle.std.specs.Prelude.{Ok, Err}
 use Prim.Native.Nat.{ℕ, ◌%◌}
 use mathlib.Core.Path.{◌≡◌, refl, sym, ap, ◌∙◌}
 use mathlib.Core.List.{List, []}
 use mathlib.Core.Bool.{Bool, true, false, ◌||◌}
-use mathlib.Core.Option.{Option, none, some}
 use mathlib.Core.Logic.{◌⊎◌, inl, inr}
 use native.Mathlib.Omega.{arith}
 use lib.Dec.{eqb}
 use Rattle.error.specs.declared.Refusal.{Refusal}
 use Rattle.error.specs.declared.Refusal.TheVariants.{FarJump, CookedAddress}
-use Rattle.error.specs.Answer.{Out, refused, done, ◌>>=◌}
+use Rattle.error.specs.Answer.{Out, ◌>>=◌}
 use Rattle.error.proofs.All.{Turned, turned_bind, turned_cond}
 use Rattle.bpf.specs.Bytes.{be}
 use Rattle.ast.specs.declared.LinkType.{LinkType}
 use Rattle.ast.specs.declared.LinkType.TheVariants.{Ethernet, RawIp, LinuxSll}
 use Rattle.ast.specs.declared.Dir.{Dir}
 use Rattle.ast.specs.declared.Dir.TheVariants.{SrcOrDst, Src, Dst, SrcAndDst}
-use Rattle.ast.specs.Tree.{Primitive, Protocol, Host4, Host6, Net, Net6, Port, PortRange, EtherHost, EtherProto, EtherMulticast, IpBroadcast, IpMulticast, Ip6Multicast, IpProtoChain, Ip6ProtoChain}
+use Rattle.ast.specs.declared.Primitive.{Primitive}
+use Rattle.ast.specs.declared.Primitive.TheVariants.{Protocol, Host4, Host6, Net, Net6, Port, PortRange, EtherHost, EtherProto, EtherMulticast, IpBroadcast, IpMulticast, Ip6Multicast, IpProtoChain, Ip6ProtoChain}
 use Rattle.ast.specs.Tree.{Expr, Leaf, And, Or, Not}
 use Rattle.direct.specs.Reading.{sides, bytes_are, reads_primitive}
 use Rattle.codegen.specs.declared.L4Set.{L4Set}
-use Rattle.codegen.specs.declared.Known.{Known}
-use Rattle.codegen.specs.declared.Known.TheVariants.{Unknown, Is}
 use Rattle.codegen.specs.declared.Facts.{Facts}
 use Rattle.codegen.specs.declared.GuardSet.{GuardSet}
-use Rattle.codegen.specs.Facts.{ready_set, holds, intersect}
+use Rattle.codegen.specs.Facts.{holds, intersect}
 use Rattle.codegen.specs.Protocols.{row_of, small_of, known, l4set_for}
 use Rattle.codegen.specs.Guards.{required_guards}
 use Rattle.codegen.specs.Block.{Block, far, resolved}
@@ -38,41 +38,41 @@ IsFar : Refusal → Type 0
 IsFar r = r ≡ FarJump
 
 Meets : {A : Type 0} → Option Refusal → Out A → Type 0
-Meets none o = Turned IsFar o
-Meets (some r) (refused x) = (x ≡ r) ⊎ (x ≡ FarJump)
-Meets (some r) (done a) = ⊥
+Meets None o = Turned IsFar o
+Meets (Some r) (Err x) = (x ≡ r) ⊎ (x ≡ FarJump)
+Meets (Some r) (Ok a) = ⊥
 
-met_far : (A : Type 0) (m : Option Refusal) (x : Refusal) → IsFar x → Meets {A = A} m (refused x)
+met_far : (A : Type 0) (m : Option Refusal) (x : Refusal) → IsFar x → Meets {A = A} m (Err x)
 unfolding Meets IsFar
-met_far A none x e = e
-met_far A (some r) x e = inr e
+met_far A None x e = e
+met_far A (Some r) x e = inr e
 
 met_bind : {A B : Type 0} (m n : Option Refusal) (o : Out A) (k : A → Out B) → Meets m o → ((a : A) → Meets n (k a)) → Meets (or_else m n) (o >>= k)
 unfolding Meets
-met_bind {B = B} none n (refused x) k h j = met_far B n x h
-met_bind none n (done a) k h j = j a
-met_bind (some r) n (refused x) k h j = h
-met_bind (some r) n (done a) k h j = absurd h
+met_bind {B = B} None n (Err x) k h j = met_far B n x h
+met_bind None n (Ok a) k h j = j a
+met_bind (Some r) n (Err x) k h j = h
+met_bind (Some r) n (Ok a) k h j = absurd h
 
 -- only a jump may be too far after it
-met_after : {A B : Type 0} (m : Option Refusal) (o : Out A) (k : A → Out B) → Meets m o → ((a : A) → Meets none (k a)) → Meets m (o >>= k)
-met_after none o k h j = met_bind none none o k h j
-met_after (some r) o k h j = met_bind (some r) none o k h j
+met_after : {A B : Type 0} (m : Option Refusal) (o : Out A) (k : A → Out B) → Meets m o → ((a : A) → Meets None (k a)) → Meets m (o >>= k)
+met_after None o k h j = met_bind None None o k h j
+met_after (Some r) o k h j = met_bind (Some r) None o k h j
 
 -- nothing after it is turned down
-met_last : {A B : Type 0} (m : Option Refusal) (o : Out A) (f : A → B) → Meets m o → Meets m (o >>= λ a. done (f a))
+met_last : {A B : Type 0} (m : Option Refusal) (o : Out A) (f : A → B) → Meets m o → Meets m (o >>= λ a. Ok (f a))
 unfolding Meets
-met_last none (refused x) f h = h
-met_last none (done a) f h = tt
-met_last (some r) (refused x) f h = h
-met_last (some r) (done a) f h = absurd h
+met_last None (Err x) f h = h
+met_last None (Ok a) f h = tt
+met_last (Some r) (Err x) f h = h
+met_last (Some r) (Ok a) f h = absurd h
 
-met_own : {A B : Type 0} (o : Out A) (f : A → B) → Meets (refusal_in o) (o >>= λ a. done (f a))
+met_own : {A B : Type 0} (o : Out A) (f : A → B) → Meets (refusal_in o) (o >>= λ a. Ok (f a))
 unfolding Meets
-met_own (refused r) f = inl refl
-met_own (done a) f = tt
+met_own (Err r) f = inl refl
+met_own (Ok a) f = tt
 
-resolved_met : (b : Block) → Meets none (resolved b)
+resolved_met : (b : Block) → Meets None (resolved b)
 unfolding Meets IsFar
 resolved_met b = turned_cond IsFar (far b) _ _ refl tt
 
@@ -87,23 +87,23 @@ module _ (q : Refusal → Type 0) where
   unfolding guarded
   guarded_never v b g = turned_bind q (emit_ethertype LinuxSll v g) _ (kind_never v g) (λ c. tt)
 
-  l4_never : (v at : ℕ) (get : Facts → Known) (learn : Facts → ℕ → Facts) (p : ℕ) (g : Facts) → Turned q (emit_l4 LinuxSll v at get learn p g)
+  l4_never : (v at : ℕ) (get : Facts → Option ℕ) (learn : Facts → ℕ → Facts) (p : ℕ) (g : Facts) → Turned q (emit_l4 LinuxSll v at get learn p g)
   unfolding emit_l4
   l4_never v at get learn p g =
       turned_bind q (emit_ethertype LinuxSll v g) _ (kind_never v g) (λ c. turned_cond q (holds (get c.facts) p) _ _ tt tt)
 
-  row_never : (v : ℕ) (p n : Known) (g : Facts) → Turned q (emit_row LinuxSll v p n g)
-  row_never v Unknown Unknown g = kind_never v g
-  row_never v Unknown (Is n) g = l4_never _ _ _ _ n g
-  row_never v (Is p) n g = l4_never _ _ _ _ p g
+  row_never : (v : ℕ) (p n : Option ℕ) (g : Facts) → Turned q (emit_row LinuxSll v p n g)
+  row_never v None None g = kind_never v g
+  row_never v None (Some n) g = l4_never _ _ _ _ n g
+  row_never v (Some p) n g = l4_never _ _ _ _ p g
 
-  known_never : (k : Known) (emit : ℕ → Facts → Out Code) → ((v : ℕ) (g : Facts) → Turned q (emit v g)) → (c : Code) → Turned q (hoist_known LinuxSll k emit c)
-  known_never Unknown emit h c = tt
-  known_never (Is v) emit h c = turned_bind q (emit v c.facts) _ (h v c.facts) (λ d. tt)
+  known_never : (k : Option ℕ) (emit : ℕ → Facts → Out Code) → ((v : ℕ) (g : Facts) → Turned q (emit v g)) → (c : Code) → Turned q (hoist_known LinuxSll k emit c)
+  known_never None emit h c = tt
+  known_never (Some v) emit h c = turned_bind q (emit v c.facts) _ (h v c.facts) (λ d. tt)
 
   ports_never : (s : Option L4Set) (c : Code) → Turned q (hoist_ports LinuxSll s c)
-  ports_never none c = tt
-  ports_never (some want) c = tt
+  ports_never None c = tt
+  ports_never (Some want) c = tt
 
   hoist_never : (r : GuardSet) (g : Facts) → Turned q (or_hoist LinuxSll r g)
   unfolding or_hoist
@@ -111,7 +111,7 @@ module _ (q : Refusal → Type 0) where
       turned_bind q (hoist_known LinuxSll r.ethertype (emit_ethertype LinuxSll) (code [] g)) _ (known_never r.ethertype _ kind_never (code [] g))
       (λ a. turned_bind q (hoist_known LinuxSll r.ip4_proto _ a) _ (known_never r.ip4_proto _ (l4_never _ _ _ _) a)
       (λ b. turned_bind q (hoist_known LinuxSll r.ip6_nh _ b) _ (known_never r.ip6_nh _ (l4_never _ _ _ _) b)
-      (λ c. ports_never (ready_set r.port_prereqs) c)))
+      (λ c. ports_never r.port_prereqs c)))
 
 host_met : (d : Dir) (a : List ℕ) (g : Facts) → Meets (of_address d) (emit_primitive LinuxSll (EtherHost d a) g)
 unfolding emit_primitive ether Meets
@@ -145,33 +145,33 @@ unfolding emit first_down
 tree_met (Leaf p) g = condition_met p g
 tree_met (And l r) g =
     met_bind (first_down l) (first_down r) (emit LinuxSll l g) _ (tree_met l g)
-    (λ b. met_bind none (first_down r) (resolved _) _ (resolved_met _) (λ b'. met_last (first_down r) (emit LinuxSll r _) _ (tree_met r _)))
+    (λ b. met_bind None (first_down r) (resolved _) _ (resolved_met _) (λ b'. met_last (first_down r) (emit LinuxSll r _) _ (tree_met r _)))
 tree_met (Or l r) g =
-    met_bind none (or_else (first_down l) (first_down r)) (or_hoist LinuxSll (intersect (required_guards l) (required_guards r)) g) _ (unfold Meets in hoist_never IsFar _ g)
+    met_bind None (or_else (first_down l) (first_down r)) (or_hoist LinuxSll (intersect (required_guards l) (required_guards r)) g) _ (unfold Meets in hoist_never IsFar _ g)
     (λ h. met_bind (first_down l) (first_down r) (emit LinuxSll l h.facts) _ (tree_met l _)
-    (λ b. met_bind none (first_down r) (resolved _) _ (resolved_met _) (λ b'. met_last (first_down r) (emit LinuxSll r _) _ (tree_met r _))))
-tree_met (Not t) g = met_after (first_down t) (emit LinuxSll t g) _ (tree_met t g) (λ b. met_last none (resolved _) _ (resolved_met _))
+    (λ b. met_bind None (first_down r) (resolved _) _ (resolved_met _) (λ b'. met_last (first_down r) (emit LinuxSll r _) _ (tree_met r _))))
+tree_met (Not t) g = met_after (first_down t) (emit LinuxSll t g) _ (tree_met t g) (λ b. met_last None (resolved _) _ (resolved_met _))
 
 compile_met : (t : Expr) → Meets (first_down t) (compile LinuxSll t)
 unfolding compile
-compile_met t = met_after (first_down t) (emit LinuxSll t (entry_facts LinuxSll)) _ (tree_met t _) (λ c. met_last none (resolved _) _ (resolved_met _))
+compile_met t = met_after (first_down t) (emit LinuxSll t (entry_facts LinuxSll)) _ (tree_met t _) (λ c. met_last None (resolved _) _ (resolved_met _))
 
-first_down_lem : {A : Type 0} (o : Out A) (r : Refusal) → Meets (some r) o → (o ≡ refused r) ⊎ (o ≡ refused FarJump)
+first_down_lem : {A : Type 0} (o : Out A) (r : Refusal) → Meets (Some r) o → (o ≡ Err r) ⊎ (o ≡ Err FarJump)
 unfolding Meets
-first_down_lem (refused x) r (inl e) = inl (ap refused e)
-first_down_lem (refused x) r (inr e) = inr (ap refused e)
-first_down_lem (done a) r h = absurd h
+first_down_lem (Err x) r (inl e) = inl (ap Err e)
+first_down_lem (Err x) r (inr e) = inr (ap Err e)
+first_down_lem (Ok a) r h = absurd h
 
-free_far : {A : Type 0} (o : Out A) (r : Refusal) → Meets none o → o ≡ refused r → r ≡ FarJump
+free_far : {A : Type 0} (o : Out A) (r : Refusal) → Meets None o → o ≡ Err r → r ≡ FarJump
 unfolding Meets IsFar
-free_far (refused x) r h e = let z : x ≡ r = cc in sym z ∙ h
-free_far (done a) r h e = let z : ◌≡◌ {A = ℕ} 0 1 = cc in absurd (omega arith)
+free_far (Err x) r h e = let z : x ≡ r = cc in sym z ∙ h
+free_far (Ok a) r h e = let z : ◌≡◌ {A = ℕ} 0 1 = cc in absurd (omega arith)
 
 -- ---- trees that are as before
 
 bind_same : {A B : Type 0} (o : Out A) {j k : A → Out B} → ((a : A) → j a ≡ k a) → (o >>= j) ≡ (o >>= k)
-bind_same (refused r) h = refl
-bind_same (done a) h = h a
+bind_same (Err r) h = refl
+bind_same (Ok a) h = h a
 
 or_left : (a b : Bool) → (a || b) ≡ false → a ≡ false
 or_left true b e = e
@@ -272,7 +272,7 @@ many_reads LinuxSll f n = absurd (n refl)
 
 -- ---- the page
 
-other_directions : (d : Dir) (a : List ℕ) (g : Facts) → ¬ (d ≡ Src) → emit_primitive LinuxSll (EtherHost d a) g ≡ refused CookedAddress
+other_directions : (d : Dir) (a : List ℕ) (g : Facts) → ¬ (d ≡ Src) → emit_primitive LinuxSll (EtherHost d a) g ≡ Err CookedAddress
 unfolding emit_primitive ether
 other_directions SrcOrDst a g n = refl
 other_directions Src a g n = absurd (n refl)

@@ -1,4 +1,5 @@
 -- What the generator's facts say of a frame and of X, and that its ways to put facts together keep them true.
+use Rattle.std.specs.Prelude.{Option, None, Some}
 use Prim.Native.Nat.{ℕ, ◌+◌, ◌*◌, ◌%◌, ◌^◌}
 use mathlib.Core.Path.{◌≡◌, refl}
 use mathlib.Core.List.{List}
@@ -12,12 +13,8 @@ use Rattle.ast.specs.declared.LinkType.TheVariants.{Ethernet, RawIp, LinuxSll}
 use Rattle.direct.specs.Reading.{kind}
 use Rattle.codegen.specs.declared.L4Set.{L4Set}
 use Rattle.codegen.specs.declared.L4Set.TheVariants.{One, TcpOrUdp}
-use Rattle.codegen.specs.declared.Known.{Known}
-use Rattle.codegen.specs.declared.Known.TheVariants.{Is}
-use Rattle.codegen.specs.declared.Ports.{Ports}
-use Rattle.codegen.specs.declared.Ports.TheVariants.{NotReady}
 use Rattle.codegen.specs.declared.Facts.{Facts}
-use Rattle.codegen.specs.Facts.{ready_set, contains, subset_of, same_set, join, fill, both, join_ports, learn_ethertype, learn_ip4, learn_ip6, restored, meet}
+use Rattle.codegen.specs.Facts.{contains, subset_of, same_set, join, fill, both, join_ports, learn_ethertype, learn_ip4, learn_ip6, restored, meet}
 use Rattle.codegen.specs.Emit.{net_offset}
 use Rattle.codegen.proofs.KnownLaws.{Says, SaysPorts, says_ready, of_two_lem, says_fill, says_left, says_right, same_set_eq}
 
@@ -60,30 +57,30 @@ Grows q = (a b : L4Set) → subset_of a b ≡ true → q a ≡ true → q b ≡ 
 
 -- a join passes what its set `s`, the left or the right, passes
 join_passes : (q : L4Set → Bool) → Grows q → (a b s : L4Set) → (same_set a b ≡ true → q a ≡ true) → ((subset_of a TcpOrUdp && subset_of b TcpOrUdp) ≡ true → subset_of s TcpOrUdp ≡ true)
-    → q s ≡ true → SaysPorts (ready_set (join a b)) (Passes q)
+    → q s ≡ true → SaysPorts (join a b) (Passes q)
 join_passes q g a b s same sub h =
-    cases (λ k. SaysPorts (ready_set k) (Passes q)) (same_set a b) (λ e. says_ready a (Passes q) (same e))
-    (λ n. cases (λ k. SaysPorts (ready_set k) (Passes q)) (subset_of a TcpOrUdp && subset_of b TcpOrUdp) (λ e. g s TcpOrUdp (sub e) h) (λ e. tt))
+    cases (λ k. SaysPorts k (Passes q)) (same_set a b) (λ e. says_ready a (Passes q) (same e))
+    (λ n. cases (λ k. SaysPorts k (Passes q)) (subset_of a TcpOrUdp && subset_of b TcpOrUdp) (λ e. g s TcpOrUdp (sub e) h) (λ e. tt))
 
-pub join_left : (q : L4Set → Bool) → Grows q → (k l : Ports) → SaysPorts (ready_set k) (Passes q) → SaysPorts (ready_set (join_ports k l)) (Passes q)
-join_left q g k l = of_two_lem join (Passes q) (λ k l. SaysPorts k (Passes q)) (λ a b h. join_passes q g a b a (λ e. h) (and_left (subset_of a TcpOrUdp) (subset_of b TcpOrUdp)) h) (ready_set k) (ready_set l)
+pub join_left : (q : L4Set → Bool) → Grows q → (k l : Option L4Set) → SaysPorts k (Passes q) → SaysPorts (join_ports k l) (Passes q)
+join_left q g k l = of_two_lem join (Passes q) (λ k l. SaysPorts k (Passes q)) (λ a b h. join_passes q g a b a (λ e. h) (and_left (subset_of a TcpOrUdp) (subset_of b TcpOrUdp)) h) k l
 
-pub join_right : (q : L4Set → Bool) → Grows q → (k l : Ports) → SaysPorts (ready_set l) (Passes q) → SaysPorts (ready_set (join_ports k l)) (Passes q)
-join_right q g k l = of_two_lem join (Passes q) (λ k l. SaysPorts l (Passes q)) (λ a b h. join_passes q g a b b (λ e. rw (same_set_eq a b e) h) (and_right (subset_of a TcpOrUdp) (subset_of b TcpOrUdp)) h) (ready_set k) (ready_set l)
+pub join_right : (q : L4Set → Bool) → Grows q → (k l : Option L4Set) → SaysPorts l (Passes q) → SaysPorts (join_ports k l) (Passes q)
+join_right q g k l = of_two_lem join (Passes q) (λ k l. SaysPorts l (Passes q)) (λ a b h. join_passes q g a b b (λ e. rw (same_set_eq a b e) h) (and_right (subset_of a TcpOrUdp) (subset_of b TcpOrUdp)) h) k l
 
 -- ---- RawIp keeps the ethertype 0x0800 with which it starts
 
-abbrev pub Raw : LinkType → Known → Type 0
+abbrev pub Raw : LinkType → Option ℕ → Type 0
 Raw Ethernet k = Unit {0}
-Raw RawIp k = k ≡ Is 0x0800
+Raw RawIp k = k ≡ Some 0x0800
 Raw LinuxSll k = Unit {0}
 
-pub raw_fill : (L : LinkType) (k : Known) (v : ℕ) → Raw L k → Raw L (fill k v)
+pub raw_fill : (L : LinkType) (k : Option ℕ) (v : ℕ) → Raw L k → Raw L (fill k v)
 raw_fill Ethernet k v h = tt
 raw_fill RawIp k v h = rw h
 raw_fill LinuxSll k v h = tt
 
-pub raw_both : (L : LinkType) (k l : Known) → Raw L k → Raw L l → Raw L (both k l)
+pub raw_both : (L : LinkType) (k l : Option ℕ) → Raw L k → Raw L l → Raw L (both k l)
 raw_both Ethernet k l h j = tt
 raw_both RawIp k l h j = rw (h, j)
 raw_both LinuxSll k l h j = tt
@@ -128,7 +125,7 @@ module _ (L : LinkType) (f : List ℕ) where
     pub ethertype : Says g.ethertype (Passes (kind L f))
     pub ip4 : Says g.ip4_proto (Passes (eqb (be 1 (net_offset L + 9) f)))
     pub ip6 : Says g.ip6_nh (Passes (eqb (be 1 (net_offset L + 6) f)))
-    pub ports : SaysPorts (ready_set g.ports_ready) (Passes (ready_at x))
+    pub ports : SaysPorts g.ports_ready (Passes (ready_at x))
 
   pub holds_meet_left : (g h : Facts) (x : ℕ) → Holds g x → Holds (meet g h) x
   holds_meet_left g h x k =
@@ -148,7 +145,7 @@ module _ (L : LinkType) (f : List ℕ) where
         ports = join_right (ready_at x) (ready_at_grows x) g.ports_ready h.ports_ready k.ports;
       }
 
-  kept_ports : (w : Bool) (k : Ports) (x y : ℕ) → (w ≡ false → y ≡ x) → SaysPorts (ready_set k) (Passes (ready_at x)) → SaysPorts (ready_set (cond w NotReady k)) (Passes (ready_at y))
+  kept_ports : (w : Bool) (k : Option L4Set) (x y : ℕ) → (w ≡ false → y ≡ x) → SaysPorts k (Passes (ready_at x)) → SaysPorts (cond w None k) (Passes (ready_at y))
   kept_ports true k x y e h = tt
   kept_ports false k x y e h = rw (e refl) h
 

@@ -1,27 +1,29 @@
 -- The whole tree: its code decides its direct reading.
+use Rattle.std.specs.Prelude.{Option, None, Some}
+use Rattle.std.specs.Prelude.{Ok, Err}
 use Prim.Native.Nat.{ℕ}
 use mathlib.Core.Path.{◌≡◌, refl, sym, ◌∙◌}
 use mathlib.Core.List.{List, []}
 use mathlib.Core.Bool.{Bool, true, false, cond, ◌&&◌, ◌||◌, and-true}
-use mathlib.Core.Option.{Option, none, some}
-use Rattle.error.specs.Answer.{Out, refused, done, ◌>>=◌}
+use Rattle.error.specs.Answer.{Out, ◌>>=◌}
 use Rattle.error.proofs.All.{cases, either, All, all_bind}
 use Rattle.bpf.specs.Bytes.{AreBytes}
 use Rattle.ast.specs.declared.LinkType.{LinkType}
-use Rattle.ast.specs.Tree.{Proto, Ip, Ip6, Arp, Rarp, Tcp, Udp, Icmp, Icmp6, Igmp, Sctp, Num, Ip6Proto}
-use Rattle.ast.specs.Tree.{Primitive, Protocol, Host4, Host6, Net, Net6, Port, PortRange, EtherHost, EtherProto, EtherMulticast, IpBroadcast, IpMulticast, Ip6Multicast, IpProtoChain, Ip6ProtoChain}
+use Rattle.ast.specs.declared.Proto.{Proto}
+use Rattle.ast.specs.declared.Proto.TheVariants.{Ip, Ip6, Arp, Rarp, Tcp, Udp, Icmp, Icmp6, Igmp, Sctp, Num, Ip6Proto}
+use Rattle.ast.specs.declared.Primitive.{Primitive}
+use Rattle.ast.specs.declared.Primitive.TheVariants.{Protocol, Host4, Host6, Net, Net6, Port, PortRange, EtherHost, EtherProto, EtherMulticast, IpBroadcast, IpMulticast, Ip6Multicast, IpProtoChain, Ip6ProtoChain}
 use Rattle.ast.specs.Tree.{Expr, Leaf, And, Or, Not}
 use Rattle.ast.proofs.Proper.{Proper}
 use Rattle.direct.specs.Reading.{port_set, kind, ipv4, ipv6, reads_proto, transport, reads_primitive, reads}
 use Rattle.codegen.specs.declared.L4Set.{L4Set}
-use Rattle.codegen.specs.declared.Known.{Known}
-use Rattle.codegen.specs.declared.Known.TheVariants.{Unknown, Is}
 use Rattle.codegen.specs.declared.Facts.{Facts}
 use Rattle.codegen.specs.declared.GuardSet.{GuardSet}
-use Rattle.codegen.specs.Facts.{ready_set, contains, no_guards, intersect}
+use Rattle.codegen.specs.Facts.{contains, no_guards, intersect}
 use Rattle.codegen.specs.Protocols.{l4set_for}
 use Rattle.codegen.specs.Guards.{guards, set_of, primitive_guards, required_guards}
-use Rattle.codegen.specs.Block.{Block, settle, turn, otherwise, resolved, far, writes_x, success}
+use Rattle.codegen.specs.declared.Side.TheVariants.{Success}
+use Rattle.codegen.specs.Block.{Block, settle, turn, otherwise, resolved, far, writes_x}
 use Rattle.codegen.specs.Emit.{is_raw, Code, code, emit_ethertype, emit_ip4_l4, emit_ip6_l4, hoist_known, hoist_ports, or_hoist, emit, restored_after}
 use Rattle.codegen.proofs.Laws.{Never, Maybe, seq, settled, else, negated, equal, allow, learning, known, kept}
 use Rattle.codegen.proofs.KnownLaws.{Says, SaysPorts, says_ready, GuardsSay, union_says, intersect_left, intersect_right}
@@ -47,7 +49,7 @@ module _ (L : LinkType) (f : List ℕ) where
   meets_none : Meets no_guards
   meets_none = record { ethertype = tt; ip4 = tt; ip6 = tt; ports = tt }
 
-  meets_kind : (v : ℕ) (q : Bool) → (kind L f v && q) ≡ true → Meets (guards v Unknown Unknown)
+  meets_kind : (v : ℕ) (q : Bool) → (kind L f v && q) ≡ true → Meets (guards v None None)
   meets_kind v q e = record { ethertype = and_left (kind L f v) q e; ip4 = tt; ip6 = tt; ports = tt }
 
   ipv4_kind : (p : ℕ) → ipv4 L f p ≡ true → kind L f 0x0800 ≡ true
@@ -58,21 +60,21 @@ module _ (L : LinkType) (f : List ℕ) where
   unfolding ipv6
   ipv6_kind p e = and_left (kind L f 0x86dd) _ e
 
-  meets_ip4 : (p : ℕ) → ipv4 L f p ≡ true → Meets (guards 0x0800 (Is p) Unknown)
+  meets_ip4 : (p : ℕ) → ipv4 L f p ≡ true → Meets (guards 0x0800 (Some p) None)
   meets_ip4 p e = record { ethertype = ipv4_kind p e; ip4 = e; ip6 = tt; ports = tt }
 
-  meets_ip6 : (p : ℕ) → ipv6 L f p ≡ true → Meets (guards 0x86dd Unknown (Is p))
+  meets_ip6 : (p : ℕ) → ipv6 L f p ≡ true → Meets (guards 0x86dd None (Some p))
   meets_ip6 p e = record { ethertype = ipv6_kind p e; ip4 = tt; ip6 = e; ports = tt }
 
-  meets_only : (v : ℕ) → kind L f v ≡ true → Meets (guards v Unknown Unknown)
+  meets_only : (v : ℕ) → kind L f v ≡ true → Meets (guards v None None)
   meets_only v e = record { ethertype = e; ip4 = tt; ip6 = tt; ports = tt }
 
-  transport_ports : (p : Option Proto) (ask : ℕ → Bool) → transport L f (port_set p) ask ≡ true → SaysPorts (ready_set (set_of (l4set_for p))) (Passes (has_ports L f))
+  transport_ports : (p : Option Proto) (ask : ℕ → Bool) → transport L f (port_set p) ask ≡ true → SaysPorts (set_of (l4set_for p)) (Passes (has_ports L f))
   transport_ports p ask e = go (l4set_for p) (set_same p)
     where
-      go : (o : Out L4Set) → All (λ want. (q : ℕ) → port_set p q ≡ contains want q) o → SaysPorts (ready_set (set_of o)) (Passes (has_ports L f))
-      go (refused r) h = tt
-      go (done want) h = says_ready want (Passes (has_ports L f)) (and_left (has_ports L f want) (ask (header_length L f)) (sym (transport_is L f (port_set p) want ask h) ∙ e))
+      go : (o : Out L4Set) → All (λ want. (q : ℕ) → port_set p q ≡ contains want q) o → SaysPorts (set_of o) (Passes (has_ports L f))
+      go (Err r) h = tt
+      go (Ok want) h = says_ready want (Passes (has_ports L f)) (and_left (has_ports L f want) (ask (header_length L f)) (sym (transport_is L f (port_set p) want ask h) ∙ e))
 
   proto_meets : (p : Proto) → reads_proto L f p ≡ true → Meets (primitive_guards (Protocol p))
   unfolding primitive_guards reads_proto
@@ -120,23 +122,23 @@ module _ (L : LinkType) (f : List ℕ) where
   -- ---- hoisting: the tests that both sides of an `or` need
 
   -- the question that a hoisted test decides
-  abbrev asks : Known → (ℕ → Bool) → Bool
-  asks Unknown q = true
-  asks (Is a) q = q a
+  abbrev asks : Option ℕ → (ℕ → Bool) → Bool
+  asks None q = true
+  asks (Some a) q = q a
 
   abbrev asks_ports : Option L4Set → (L4Set → Bool) → Bool
-  asks_ports none q = true
-  asks_ports (some a) q = q a
+  asks_ports None q = true
+  asks_ports (Some a) q = q a
 
-  hoist_known_lem : (k : Known) (e : ℕ → Facts → Out Code) (q : ℕ → Bool) → ((v : ℕ) (g : Facts) → Raw L g.ethertype → All (Emits L f Never g (q v)) (e v g))
+  hoist_known_lem : (k : Option ℕ) (e : ℕ → Facts → Out Code) (q : ℕ → Bool) → ((v : ℕ) (g : Facts) → Raw L g.ethertype → All (Emits L f Never g (q v)) (e v g))
       → (g : Facts) (P : Bool) (c : Code) → Emits L f Never g P c → All (Emits L f Never g (P && asks k q)) (hoist_known L k e c)
-  hoist_known_lem Unknown e q h g P c k = record { decides = equal (sym (and-true P)) k.decides; raw = k.raw }
-  hoist_known_lem (Is v) e q h g P c k =
+  hoist_known_lem None e q h g P c k = record { decides = equal (sym (and-true P)) k.decides; raw = k.raw }
+  hoist_known_lem (Some v) e q h g P c k =
       all_bind (Emits L f Never c.facts (q v)) _ (e v c.facts) _ (h v c.facts k.raw) (λ d j. record { decides = seq k.decides j.decides; raw = j.raw })
 
   hoist_ports_lem : (k : Option L4Set) (g : Facts) (P : Bool) (c : Code) → Emits L f Never g P c → All (Emits L f Never g (P && asks_ports k (has_ports L f))) (hoist_ports L k c)
-  hoist_ports_lem none g P c k = record { decides = equal (sym (and-true P)) k.decides; raw = k.raw }
-  hoist_ports_lem (some want) g P c k =
+  hoist_ports_lem None g P c k = record { decides = equal (sym (and-true P)) k.decides; raw = k.raw }
+  hoist_ports_lem (Some want) g P c k =
       record {
         decides = seq k.decides (learning (λ a x e h. h.0) (prereqs_ready L f want c.facts k.raw));
         raw = rw (prereqs_ethertype L f want c.facts) k.raw;
@@ -145,35 +147,35 @@ module _ (L : LinkType) (f : List ℕ) where
   -- all the questions of a hoist
   abbrev wanted : GuardSet → Bool
   wanted r =
-      (((true && asks (cond (is_raw L) Unknown r.ethertype) (kind L f)) && asks r.ip4_proto (ipv4 L f)) && asks r.ip6_nh (ipv6 L f))
-      && asks_ports (ready_set r.port_prereqs) (has_ports L f)
+      (((true && asks (cond (is_raw L) None r.ethertype) (kind L f)) && asks r.ip4_proto (ipv4 L f)) && asks r.ip6_nh (ipv6 L f))
+      && asks_ports r.port_prereqs (has_ports L f)
 
   hoist_emits : (r : GuardSet) (g : Facts) → Raw L g.ethertype → All (Emits L f Never g (wanted r)) (or_hoist L r g)
   unfolding or_hoist
   hoist_emits r g raw =
-      all_bind _ _ (hoist_known L (cond (is_raw L) Unknown r.ethertype) (emit_ethertype L) (code [] g)) _
-      (hoist_known_lem (cond (is_raw L) Unknown r.ethertype) (emit_ethertype L) (kind L f) (ethertype_emits L f) g true (code [] g) (record { decides = known (λ a x h. (refl, h)); raw = raw }))
+      all_bind _ _ (hoist_known L (cond (is_raw L) None r.ethertype) (emit_ethertype L) (code [] g)) _
+      (hoist_known_lem (cond (is_raw L) None r.ethertype) (emit_ethertype L) (kind L f) (ethertype_emits L f) g true (code [] g) (record { decides = known (λ a x h. (refl, h)); raw = raw }))
       (λ a h. all_bind _ _ (hoist_known L r.ip4_proto (emit_ip4_l4 L) a) _
       (hoist_known_lem r.ip4_proto (emit_ip4_l4 L) (ipv4 L f) (ip4_emits L f) g _ a h)
       (λ b h. all_bind _ _ (hoist_known L r.ip6_nh (emit_ip6_l4 L) b) _
       (hoist_known_lem r.ip6_nh (emit_ip6_l4 L) (ipv6 L f) (ip6_emits L f) g _ b h)
-      (λ c h. hoist_ports_lem (ready_set r.port_prereqs) g _ c h)))
+      (λ c h. hoist_ports_lem r.port_prereqs g _ c h)))
 
-  says_asks : (k : Known) (q : ℕ → Bool) → Says k (Passes q) → asks k q ≡ true
-  says_asks Unknown q h = refl
-  says_asks (Is a) q h = h
+  says_asks : (k : Option ℕ) (q : ℕ → Bool) → Says k (Passes q) → asks k q ≡ true
+  says_asks None q h = refl
+  says_asks (Some a) q h = h
 
   says_asks_ports : (k : Option L4Set) (q : L4Set → Bool) → SaysPorts k (Passes q) → asks_ports k q ≡ true
-  says_asks_ports none q h = refl
-  says_asks_ports (some a) q h = h
+  says_asks_ports None q h = refl
+  says_asks_ports (Some a) q h = h
 
   meets_wanted : (r : GuardSet) → Meets r → wanted r ≡ true
   meets_wanted r m =
       and_both _ _
       (and_both _ _
-      (and_both _ _ (says_asks (cond (is_raw L) Unknown r.ethertype) (kind L f) (either (λ k. Says k (Passes (kind L f))) (is_raw L) tt m.ethertype)) (says_asks r.ip4_proto (ipv4 L f) m.ip4))
+      (and_both _ _ (says_asks (cond (is_raw L) None r.ethertype) (kind L f) (either (λ k. Says k (Passes (kind L f))) (is_raw L) tt m.ethertype)) (says_asks r.ip4_proto (ipv4 L f) m.ip4))
       (says_asks r.ip6_nh (ipv6 L f) m.ip6))
-      (says_asks_ports (ready_set r.port_prereqs) (has_ports L f) m.ports)
+      (says_asks_ports r.port_prereqs (has_ports L f) m.ports)
 
   -- ---- the tree
 
@@ -182,7 +184,7 @@ module _ (L : LinkType) (f : List ℕ) where
   tree_emits z (Leaf p) h g raw = condition_emits L f z p h g raw
   tree_emits z (And l r) h g raw =
       all_bind (Emits L f Maybe g (reads L f l)) _ (emit L l g) _ (tree_emits z l h.0 g raw)
-      (λ b hb. resolved_then _ (settle success 0 b.block) _
+      (λ b hb. resolved_then _ (settle Success 0 b.block) _
       (λ e. all_bind (Emits L f Maybe b.facts (reads L f r)) _ (emit L r b.facts) _ (tree_emits z r h.1 b.facts hb.raw)
       (λ c hc. record { decides = seq (settled hb.decides) hc.decides; raw = hc.raw })))
   tree_emits z (Or l r) h g raw =

@@ -11,28 +11,36 @@ use lib.Dec.{lit<}
 use lib.Bits.{bit_and}
 use borrow.Author.Tests.{le-leb}
 use Rattle.bpf.specs.Bytes.{be}
-use Rattle.codegen.specs.Block.{bytes, Op, ld_abs, ldh_ind, ldx_msh, ldx_imm, and_k, Side, success, failure, Exit, skip, leave, Line, op, test, ja}
+use Rattle.codegen.specs.declared.Op.{Op}
+use Rattle.codegen.specs.declared.Op.TheVariants.{LdAbs, LdhInd, LdxMsh, LdxImm, AndK}
+use Rattle.codegen.specs.declared.Side.{Side}
+use Rattle.codegen.specs.declared.Side.TheVariants.{Success, Failure}
+use Rattle.codegen.specs.declared.Exit.{Exit}
+use Rattle.codegen.specs.declared.Exit.TheVariants.{Skip, Leave}
+use Rattle.codegen.specs.declared.Line.{Line}
+use Rattle.codegen.specs.declared.Line.TheVariants.{Plain, Branch, Jump}
+use Rattle.codegen.specs.Block.{bytes}
 use Rattle.codegen.specs.Block.{Block, settle, turn, otherwise, same, swap, swap_line}
 use Rattle.codegen.proofs.Semantics.{Ending, fell, left, cut, to, loaded, inside, compare, taken, indexed, line, pursue, run, length_settle}
 
 -- ---- the rule
 
 abbrev pub NearOp : ℕ → Op → Type 0
-NearOp N (ld_abs w k) = k + bytes w ≤ N
-NearOp N (ldh_ind k) = k + 62 ≤ N
-NearOp N (ldx_msh k) = k + 1 ≤ N
-NearOp N (ldx_imm k) = k ≤ 60
-NearOp N (and_k k) = k < 2 ^ 32
+NearOp N (LdAbs w k) = k + bytes w ≤ N
+NearOp N (LdhInd k) = k + 62 ≤ N
+NearOp N (LdxMsh k) = k + 1 ≤ N
+NearOp N (LdxImm k) = k ≤ 60
+NearOp N (AndK k) = k < 2 ^ 32
 
 abbrev pub Lands : ℕ → Exit → Type 0
-Lands m (skip n) = n ≤ m
-Lands m (leave e) = Unit {0}
+Lands m (Skip n) = n ≤ m
+Lands m (Leave e) = Unit {0}
 
 -- a line with m lines to go
 abbrev pub MadeLine : ℕ → ℕ → Line → Type 0
-MadeLine N m (op o) = NearOp N o
-MadeLine N m (test t k s p) = (k < 2 ^ 32) × Lands m p
-MadeLine N m (ja p) = Lands m p
+MadeLine N m (Plain o) = NearOp N o
+MadeLine N m (Branch t k s p) = (k < 2 ^ 32) × Lands m p
+MadeLine N m (Jump p) = Lands m p
 
 -- the loads stay below N, the numbers have 32 bits, and the jumps go at most d lines past the end
 abbrev pub Made : ℕ → ℕ → Block → Type 0
@@ -42,13 +50,13 @@ Made N d (l ∷ b) = MadeLine N (length b + d) l × Made N d b
 -- ---- blocks put together
 
 lands_more : (m m' : ℕ) → m ≤ m' → (p : Exit) → Lands m p → Lands m' p
-lands_more m m' h (skip n) k = le_trans k h
-lands_more m m' h (leave e) k = tt
+lands_more m m' h (Skip n) k = le_trans k h
+lands_more m m' h (Leave e) k = tt
 
 line_more : (N m m' : ℕ) → m ≤ m' → (l : Line) → MadeLine N m l → MadeLine N m' l
-line_more N m m' h (op o) k = k
-line_more N m m' h (test t n s p) k = (k.0, lands_more m m' h p k.1)
-line_more N m m' h (ja p) k = lands_more m m' h p k
+line_more N m m' h (Plain o) k = k
+line_more N m m' h (Branch t n s p) k = (k.0, lands_more m m' h p k.1)
+line_more N m m' h (Jump p) k = lands_more m m' h p k
 
 pub made_append : (N d : ℕ) (b k : Block) → Made N 0 b → Made N d k → Made N d (b ++ k)
 made_append N d [] k h j = j
@@ -56,24 +64,24 @@ made_append N d (l ∷ b) k h j =
     (line_more N (length b + 0) (length (b ++ k) + d) (omega (arith, length-append b k)) l h.0, made_append N d b k h.1 j)
 
 lands_swap : (m : ℕ) (e : Side) (e' p : Exit) → Lands m e' → Lands m p → Lands m (swap e e' p)
-lands_swap m e e' (skip n) h k = k
-lands_swap m e e' (leave p) h k = go (same e p)
+lands_swap m e e' (Skip n) h k = k
+lands_swap m e e' (Leave p) h k = go (same e p)
   where
-    go : (b : Bool) → Lands m (cond b e' (leave p))
+    go : (b : Bool) → Lands m (cond b e' (Leave p))
     go true = h
     go false = tt
 
 line_swap : (N m : ℕ) (e : Side) (e' : Exit) (l : Line) → Lands m e' → MadeLine N m l → MadeLine N m (swap_line e e' l)
-line_swap N m e e' (op o) h k = k
-line_swap N m e e' (test t n s p) h k = (k.0, lands_swap m e e' p h k.1)
-line_swap N m e e' (ja p) h k = lands_swap m e e' p h k
+line_swap N m e e' (Plain o) h k = k
+line_swap N m e e' (Branch t n s p) h k = (k.0, lands_swap m e e' p h k.1)
+line_swap N m e e' (Jump p) h k = lands_swap m e e' p h k
 
 pub made_settle : (N d d' : ℕ) (e : Side) (b : Block) → d ≤ d' → Made N d b → Made N d' (settle e d' b)
 unfolding settle
 made_settle N d d' e [] h k = tt
 made_settle N d d' e (l ∷ b) h k = (
   rw (length_settle e d' b)
-      (line_swap N (length b + d') e (skip (length b + d')) l (le_refl _) (line_more N (length b + d) (length b + d') (omega arith) l k.0)),
+      (line_swap N (length b + d') e (Skip (length b + d')) l (le_refl _) (line_more N (length b + d) (length b + d') (omega arith) l k.0)),
   made_settle N d d' e b h k.1,
 )
 
@@ -85,11 +93,11 @@ length_turn (l ∷ b) = ap suc (length_turn b)
 pub made_turn : (N d : ℕ) (b : Block) → Made N d b → Made N d (turn b)
 unfolding turn
 made_turn N d [] k = tt
-made_turn N d (l ∷ b) k = (rw (length_turn b) (line_swap N (length b + d) success (leave failure) l tt k.0), made_turn N d b k.1)
+made_turn N d (l ∷ b) k = (rw (length_turn b) (line_swap N (length b + d) Success (Leave Failure) l tt k.0), made_turn N d b k.1)
 
 pub made_otherwise : (N : ℕ) (b : Block) → Made N 0 b → Made N 0 (otherwise b)
 unfolding otherwise
-made_otherwise N b h = made_settle N 0 0 failure (b ++ (ja (leave success) ∷ [])) (le_refl 0) (made_append N 0 b (ja (leave success) ∷ []) h (tt, tt))
+made_otherwise N b h = made_settle N 0 0 Failure (b ++ (Jump (Leave Success) ∷ [])) (le_refl 0) (made_append N 0 b (Jump (Leave Success) ∷ []) h (tt, tt))
 
 -- ---- such a block is never cut on a frame of N bytes
 
@@ -101,20 +109,20 @@ Uncut (cut c) = ⊥
 module _ (f : List ℕ) (N d : ℕ) (long : N ≤ length f) where
   module _ (c : ℕ) (r : ℕ → ℕ → ℕ → ℕ → Ending) (h : (n c a x : ℕ) → x ≤ 60 → Uncut (r n c a x)) where
     uncut_exit : (p : Exit) (a x : ℕ) → x ≤ 60 → Uncut (pursue (to p a x) r c)
-    uncut_exit (skip n) a x s = h n c a x s
-    uncut_exit (leave e) a x s = tt
+    uncut_exit (Skip n) a x s = h n c a x s
+    uncut_exit (Leave e) a x s = tt
 
-    uncut_load : (n at a x : ℕ) → x ≤ 60 → at + n ≤ N → Uncut (pursue (loaded (inside n at f) (to (skip 0) a x)) r c)
+    uncut_load : (n at a x : ℕ) → x ≤ 60 → at + n ≤ N → Uncut (pursue (loaded (inside n at f) (to (Skip 0) a x)) r c)
     uncut_load n at a x s k = rw (le-leb (at + n) (length f) (le_trans k long)) (h 0 c a x s)
 
     uncut_line : (m : ℕ) (l : Line) (a x : ℕ) → x ≤ 60 → MadeLine N m l → Uncut (pursue (line f l a x) r c)
-    uncut_line m (op (ld_abs w k)) a x s i = uncut_load (bytes w) k (be (bytes w) k f) x s i
-    uncut_line m (op (ldh_ind k)) a x s i = uncut_load 2 (indexed x k) (be 2 (indexed x k) f) x s (omega (arith, mod-le (x + k) (2 ^ 32)))
-    uncut_line m (op (ldx_msh k)) a x s i = uncut_load 1 k a (4 * (be 1 k f % 16)) (omega (arith, mod-lt (be 1 k f) (lit< {m = 0} {n = 16} tt))) i
-    uncut_line m (op (ldx_imm k)) a x s i = h 0 c a k i
-    uncut_line m (op (and_k k)) a x s i = h 0 c (bit_and a k) x s
-    uncut_line m (test t k z p) a x s i = uncut_exit (cond (taken z (compare t a k)) p (skip 0)) a x s
-    uncut_line m (ja p) a x s i = uncut_exit p a x s
+    uncut_line m (Plain (LdAbs w k)) a x s i = uncut_load (bytes w) k (be (bytes w) k f) x s i
+    uncut_line m (Plain (LdhInd k)) a x s i = uncut_load 2 (indexed x k) (be 2 (indexed x k) f) x s (omega (arith, mod-le (x + k) (2 ^ 32)))
+    uncut_line m (Plain (LdxMsh k)) a x s i = uncut_load 1 k a (4 * (be 1 k f % 16)) (omega (arith, mod-lt (be 1 k f) (lit< {m = 0} {n = 16} tt))) i
+    uncut_line m (Plain (LdxImm k)) a x s i = h 0 c a k i
+    uncut_line m (Plain (AndK k)) a x s i = h 0 c (bit_and a k) x s
+    uncut_line m (Branch t k z p) a x s i = uncut_exit (cond (taken z (compare t a k)) p (Skip 0)) a x s
+    uncut_line m (Jump p) a x s i = uncut_exit p a x s
 
   pub run_uncut : (b : Block) → Made N d b → (n c a x : ℕ) → x ≤ 60 → Uncut (run f b n c a x)
   unfolding run

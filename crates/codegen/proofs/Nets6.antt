@@ -13,7 +13,15 @@ use lib.ListN.{length}
 use Rattle.error.proofs.All.{either}
 use Rattle.bpf.specs.Program.{Each}
 use Rattle.ast.proofs.Proper.{Half}
-use Rattle.codegen.specs.Block.{Op, Test, failure, Exit, leave, Slot, jf, op, test, ja, Block}
+use Rattle.codegen.specs.declared.Op.{Op}
+use Rattle.codegen.specs.declared.Test.{Test}
+use Rattle.codegen.specs.declared.Side.TheVariants.{Failure}
+use Rattle.codegen.specs.declared.Exit.{Exit}
+use Rattle.codegen.specs.declared.Exit.TheVariants.{Leave}
+use Rattle.codegen.specs.declared.Slot.{Slot}
+use Rattle.codegen.specs.declared.Slot.TheVariants.{Jf}
+use Rattle.codegen.specs.declared.Line.TheVariants.{Plain, Branch, Jump}
+use Rattle.codegen.specs.Block.{Block}
 use Rattle.codegen.specs.Emit.{net_offset, need, check_blocks, check_ip6_addr, mask16, check_net6, guarded, emit_primitive}
 use Rattle.codegen.proofs.FactsHold.{and_left, and_right}
 use Rattle.codegen.specs.Nets6.{tabulate, mask_of, masks, under, expected, last_test, tests, Address, joined, Aside, Nets6}
@@ -57,7 +65,7 @@ aside (m ∷ ms) (e ∷ es) at = either Aside (eqb m 0xffff) (refl, refl, aside 
 
 -- and nothing else passes for it, behind other lines too: no other field, no other way out, no distance, and no `ja`
 no_others : (o : Op) (t : Test) (k j : ℕ) (s : Slot) (e : Exit) (b : Block)
-    → (Aside (op o ∷ need k ∷ test t j s e ∷ b) → (s ≡ jf) × (e ≡ leave failure)) × (Aside (op o ∷ need k ∷ ja e ∷ b) → ⊥)
+    → (Aside (Plain o ∷ need k ∷ Branch t j s e ∷ b) → (s ≡ Jf) × (e ≡ Leave Failure)) × (Aside (Plain o ∷ need k ∷ Jump e ∷ b) → ⊥)
 no_others o t k j s e b = (λ h. (h.2.0, h.2.1), λ h. h.2)
 
 -- ---- hosts

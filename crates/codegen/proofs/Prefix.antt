@@ -13,7 +13,13 @@ use Rattle.bpf.proofs.Bytes.{be_prefix}
 use Rattle.vm.specs.declared.Verdict.TheVariants.{Short}
 use Rattle.vm.specs.declared.Outcome.{Outcome}
 use Rattle.vm.specs.Machine.{effect, exec, inner}
-use Rattle.codegen.specs.Block.{bytes, ld_abs, ldh_ind, ldx_msh, ldx_imm, and_k, success, failure, Exit, skip, leave, Line, op, test, ja}
+use Rattle.codegen.specs.declared.Op.TheVariants.{LdAbs, LdhInd, LdxMsh, LdxImm, AndK}
+use Rattle.codegen.specs.declared.Side.TheVariants.{Success, Failure}
+use Rattle.codegen.specs.declared.Exit.{Exit}
+use Rattle.codegen.specs.declared.Exit.TheVariants.{Skip, Leave}
+use Rattle.codegen.specs.declared.Line.{Line}
+use Rattle.codegen.specs.declared.Line.TheVariants.{Plain, Branch, Jump}
+use Rattle.codegen.specs.Block.{bytes}
 use Rattle.codegen.specs.Block.{Block, assemble}
 use Rattle.codegen.specs.Compile.{returns, finished}
 use Rattle.codegen.proofs.Semantics.{Ending, fell, left, cut, Went, to, loaded, inside, compare, taken, indexed, line, pursue, run, redirect}
@@ -28,8 +34,8 @@ Same (cut c) o = Unit {0}
 module _ (f e : List ℕ) where
   module _ (c : ℕ) (r s : ℕ → ℕ → ℕ → ℕ → Ending) (h : (n c a x : ℕ) → Same (r n c a x) (s n c a x)) where
     same_exit : (p : Exit) (a x : ℕ) → Same (pursue (to p a x) r c) (pursue (to p a x) s c)
-    same_exit (skip n) a x = h n c a x
-    same_exit (leave p) a x = refl
+    same_exit (Skip n) a x = h n c a x
+    same_exit (Leave p) a x = refl
 
     same_load : (n at : ℕ) (w : ℕ → Went) → ((v : ℕ) → Same (pursue (w v) r c) (pursue (w v) s c))
         → Same (pursue (loaded (inside n at f) (w (be n at f))) r c) (pursue (loaded (inside n at (f ++ e)) (w (be n at (f ++ e)))) s c)
@@ -42,13 +48,13 @@ module _ (f e : List ℕ) where
         go false q = tt
 
     same_line : (l : Line) (a x : ℕ) → Same (pursue (line f l a x) r c) (pursue (line (f ++ e) l a x) s c)
-    same_line (op (ld_abs w k)) a x = same_load (bytes w) k (λ v. to (skip 0) v x) (λ v. h 0 c v x)
-    same_line (op (ldh_ind k)) a x = same_load 2 (indexed x k) (λ v. to (skip 0) v x) (λ v. h 0 c v x)
-    same_line (op (ldx_msh k)) a x = same_load 1 k (λ v. to (skip 0) a (4 * (v % 16))) (λ v. h 0 c a (4 * (v % 16)))
-    same_line (op (ldx_imm k)) a x = h 0 c a k
-    same_line (op (and_k k)) a x = h 0 c (bit_and a k) x
-    same_line (test t k z p) a x = same_exit (cond (taken z (compare t a k)) p (skip 0)) a x
-    same_line (ja p) a x = same_exit p a x
+    same_line (Plain (LdAbs w k)) a x = same_load (bytes w) k (λ v. to (Skip 0) v x) (λ v. h 0 c v x)
+    same_line (Plain (LdhInd k)) a x = same_load 2 (indexed x k) (λ v. to (Skip 0) v x) (λ v. h 0 c v x)
+    same_line (Plain (LdxMsh k)) a x = same_load 1 k (λ v. to (Skip 0) a (4 * (v % 16))) (λ v. h 0 c a (4 * (v % 16)))
+    same_line (Plain (LdxImm k)) a x = h 0 c a k
+    same_line (Plain (AndK k)) a x = h 0 c (bit_and a k) x
+    same_line (Branch t k z p) a x = same_exit (cond (taken z (compare t a k)) p (Skip 0)) a x
+    same_line (Jump p) a x = same_exit p a x
 
   run_prefix : (b : Block) (n c a x : ℕ) → Same (run f b n c a x) (run (f ++ e) b n c a x)
   unfolding run
@@ -63,11 +69,11 @@ module _ (f e : List ℕ) where
   returns_same (suc zero) t a x m = refl
   returns_same (suc (suc n)) t a x m = refl
 
-  finish_same : (o o' : Ending) (r r' : Outcome) → Same o o' → Agrees memory (exec f returns) (redirect failure 1 (redirect success 0 o)) r
-      → Agrees memory (exec (f ++ e) returns) (redirect failure 1 (redirect success 0 o')) r' → (r.verdict ≡ Short → ⊥) → r' ≡ r
+  finish_same : (o o' : Ending) (r r' : Outcome) → Same o o' → Agrees memory (exec f returns) (redirect Failure 1 (redirect Success 0 o)) r
+      → Agrees memory (exec (f ++ e) returns) (redirect Failure 1 (redirect Success 0 o')) r' → (r.verdict ≡ Short → ⊥) → r' ≡ r
   finish_same (fell n c a x) o' r r' s p q k = (rw s at q) ∙ returns_same n c a x memory ∙ sym p
-  finish_same (left success c a x) o' r r' s p q k = (rw s at q) ∙ returns_same 0 c a x memory ∙ sym p
-  finish_same (left failure c a x) o' r r' s p q k = (rw s at q) ∙ returns_same 1 c a x memory ∙ sym p
+  finish_same (left Success c a x) o' r r' s p q k = (rw s at q) ∙ returns_same 0 c a x memory ∙ sym p
+  finish_same (left Failure c a x) o' r r' s p q k = (rw s at q) ∙ returns_same 1 c a x memory ∙ sym p
   finish_same (cut c) o' r r' s p q k = absurd (k (ap (λ r. r.verdict) p))
 
 abbrev pub program_of : Block → List Insn

@@ -1,8 +1,8 @@
 -- The refusals of a tree are 5 to 8 and 15.
+use Rattle.std.specs.Prelude.{Option, None, Some}
 use Prim.Native.Nat.{ℕ}
 use mathlib.Core.List.{List, [], ◌∷◌}
 use mathlib.Core.Bool.{cond}
-use mathlib.Core.Option.{Option, none, some}
 use lib.Dec.{eqb}
 use Rattle.error.specs.declared.Refusal.{Refusal}
 use Rattle.error.specs.Answer.{Out, Numbered}
@@ -11,15 +11,15 @@ use Rattle.ast.specs.declared.LinkType.{LinkType}
 use Rattle.ast.specs.declared.LinkType.TheVariants.{Ethernet, RawIp, LinuxSll}
 use Rattle.ast.specs.declared.Dir.{Dir}
 use Rattle.ast.specs.declared.Dir.TheVariants.{SrcOrDst, Src, Dst, SrcAndDst}
-use Rattle.ast.specs.Tree.{Proto, Ip, Ip6, Arp, Rarp, Tcp, Udp, Icmp, Icmp6, Igmp, Sctp, Num, Ip6Proto}
-use Rattle.ast.specs.Tree.{Primitive, Protocol, Host4, Host6, Net, Net6, Port, PortRange, EtherHost, EtherProto, EtherMulticast, IpBroadcast, IpMulticast, Ip6Multicast, IpProtoChain, Ip6ProtoChain}
+use Rattle.ast.specs.declared.Proto.{Proto}
+use Rattle.ast.specs.declared.Proto.TheVariants.{Ip, Ip6, Arp, Rarp, Tcp, Udp, Icmp, Icmp6, Igmp, Sctp, Num, Ip6Proto}
+use Rattle.ast.specs.declared.Primitive.{Primitive}
+use Rattle.ast.specs.declared.Primitive.TheVariants.{Protocol, Host4, Host6, Net, Net6, Port, PortRange, EtherHost, EtherProto, EtherMulticast, IpBroadcast, IpMulticast, Ip6Multicast, IpProtoChain, Ip6ProtoChain}
 use Rattle.ast.specs.Tree.{Expr, Leaf, And, Or, Not}
 use Rattle.codegen.specs.declared.L4Set.{L4Set}
-use Rattle.codegen.specs.declared.Known.{Known}
-use Rattle.codegen.specs.declared.Known.TheVariants.{Unknown, Is}
 use Rattle.codegen.specs.declared.Facts.{Facts}
 use Rattle.codegen.specs.declared.GuardSet.{GuardSet}
-use Rattle.codegen.specs.Facts.{ready_set, holds}
+use Rattle.codegen.specs.Facts.{holds}
 use Rattle.codegen.specs.Protocols.{row_of, small_of, known, l4set_for}
 use Rattle.codegen.specs.Block.{Block, far, resolved}
 use Rattle.codegen.specs.Emit.{ether_proto_offset, is_raw, Code, code, ethertype_at, emit_ethertype, guarded, emit_l4, emit_ip4_l4, emit_ip6_l4, emit_row, ported, by_link, no_address, sender, ether, emit_primitive, hoist_known, hoist_ports, or_hoist, emit}
@@ -37,23 +37,23 @@ resolved_turned b = turned_cond Late (far b) _ _ tt tt
 -- ---- conditions
 
 ethertype_turned : (o : Option ℕ) (v : ℕ) (g : Facts) → Turned Late (ethertype_at o v g)
-ethertype_turned none v g = turned_cond Late (eqb v 0x0800) _ _ tt tt
-ethertype_turned (some off) v g = turned_cond Late (holds g.ethertype v) _ _ tt tt
+ethertype_turned None v g = turned_cond Late (eqb v 0x0800) _ _ tt tt
+ethertype_turned (Some off) v g = turned_cond Late (holds g.ethertype v) _ _ tt tt
 
 set_turned : (p : Option Proto) → Turned Late (l4set_for p)
-set_turned none = tt
-set_turned (some Ip) = tt
-set_turned (some Ip6) = tt
-set_turned (some Arp) = tt
-set_turned (some Rarp) = tt
-set_turned (some Tcp) = tt
-set_turned (some Udp) = tt
-set_turned (some Icmp) = tt
-set_turned (some Icmp6) = tt
-set_turned (some Igmp) = tt
-set_turned (some Sctp) = tt
-set_turned (some (Num n)) = tt
-set_turned (some (Ip6Proto n)) = tt
+set_turned None = tt
+set_turned (Some Ip) = tt
+set_turned (Some Ip6) = tt
+set_turned (Some Arp) = tt
+set_turned (Some Rarp) = tt
+set_turned (Some Tcp) = tt
+set_turned (Some Udp) = tt
+set_turned (Some Icmp) = tt
+set_turned (Some Icmp6) = tt
+set_turned (Some Igmp) = tt
+set_turned (Some Sctp) = tt
+set_turned (Some (Num n)) = tt
+set_turned (Some (Ip6Proto n)) = tt
 
 link_turned : (L : LinkType) (b : Block) (cooked : Out Block) → Turned Late cooked → Turned Late (by_link L b cooked)
 link_turned Ethernet b cooked h = tt
@@ -75,7 +75,7 @@ module _ (L : LinkType) where
   unfolding guarded
   guarded_turned v b g = turned_bind Late (emit_ethertype L v g) _ (kind_turned v g) (λ c. tt)
 
-  l4_turned : (v at : ℕ) (get : Facts → Known) (learn : Facts → ℕ → Facts) (p : ℕ) (g : Facts) → Turned Late (emit_l4 L v at get learn p g)
+  l4_turned : (v at : ℕ) (get : Facts → Option ℕ) (learn : Facts → ℕ → Facts) (p : ℕ) (g : Facts) → Turned Late (emit_l4 L v at get learn p g)
   unfolding emit_l4
   l4_turned v at get learn p g =
       turned_bind Late (emit_ethertype L v g) _ (kind_turned v g) (λ c. turned_cond Late (holds (get c.facts) p) _ _ tt tt)
@@ -86,10 +86,10 @@ module _ (L : LinkType) where
   ip6_turned : (p : ℕ) (g : Facts) → Turned Late (emit_ip6_l4 L p g)
   ip6_turned p g = l4_turned _ _ _ _ p g
 
-  row_turned : (v : ℕ) (p n : Known) (g : Facts) → Turned Late (emit_row L v p n g)
-  row_turned v Unknown Unknown g = kind_turned v g
-  row_turned v Unknown (Is n) g = ip6_turned n g
-  row_turned v (Is p) n g = ip4_turned p g
+  row_turned : (v : ℕ) (p n : Option ℕ) (g : Facts) → Turned Late (emit_row L v p n g)
+  row_turned v None None g = kind_turned v g
+  row_turned v None (Some n) g = ip6_turned n g
+  row_turned v (Some p) n g = ip4_turned p g
 
   ported_turned : (p : Option Proto) (b : Block) (g : Facts) → Turned Late (ported L p b g)
   unfolding ported
@@ -119,22 +119,22 @@ module _ (L : LinkType) where
 
   -- ---- joins
 
-  known_turned : (k : Known) (e : ℕ → Facts → Out Code) → ((v : ℕ) (g : Facts) → Turned Late (e v g)) → (c : Code) → Turned Late (hoist_known L k e c)
-  known_turned Unknown e h c = tt
-  known_turned (Is v) e h c = turned_bind Late (e v c.facts) _ (h v c.facts) (λ d. tt)
+  known_turned : (k : Option ℕ) (e : ℕ → Facts → Out Code) → ((v : ℕ) (g : Facts) → Turned Late (e v g)) → (c : Code) → Turned Late (hoist_known L k e c)
+  known_turned None e h c = tt
+  known_turned (Some v) e h c = turned_bind Late (e v c.facts) _ (h v c.facts) (λ d. tt)
 
   ports_turned : (p : Option L4Set) (c : Code) → Turned Late (hoist_ports L p c)
-  ports_turned none c = tt
-  ports_turned (some want) c = tt
+  ports_turned None c = tt
+  ports_turned (Some want) c = tt
 
   hoist_turned : (r : GuardSet) (g : Facts) → Turned Late (or_hoist L r g)
   unfolding or_hoist
   hoist_turned r g =
-      let e = cond (is_raw L) Unknown r.ethertype in
+      let e = cond (is_raw L) None r.ethertype in
       turned_bind Late (hoist_known L e (emit_ethertype L) (code [] g)) _ (known_turned e _ kind_turned (code [] g))
       (λ a. turned_bind Late (hoist_known L r.ip4_proto (emit_ip4_l4 L) a) _ (known_turned r.ip4_proto _ ip4_turned a)
       (λ b. turned_bind Late (hoist_known L r.ip6_nh (emit_ip6_l4 L) b) _ (known_turned r.ip6_nh _ ip6_turned b)
-      (λ c. ports_turned (ready_set r.port_prereqs) c)))
+      (λ c. ports_turned r.port_prereqs c)))
 
   tree_turned : (t : Expr) (g : Facts) → Turned Late (emit L t g)
   unfolding emit

@@ -8,7 +8,19 @@ use lib.ListN.{length}
 use lib.Dec.{eqb, ltb, leb}
 use lib.Bits.{bit_and}
 use Rattle.bpf.specs.Bytes.{be}
-use Rattle.codegen.specs.Block.{bytes, Op, ld_abs, ldh_ind, ldx_msh, ldx_imm, and_k, Test, jeq, jgt, jge, jset, Side, success, failure, Exit, skip, leave, Slot, jt, jf, Line, op, test, ja}
+use Rattle.codegen.specs.declared.Op.{Op}
+use Rattle.codegen.specs.declared.Op.TheVariants.{LdAbs, LdhInd, LdxMsh, LdxImm, AndK}
+use Rattle.codegen.specs.declared.Test.{Test}
+use Rattle.codegen.specs.declared.Test.TheVariants.{Jeq, Jgt, Jge, Jset}
+use Rattle.codegen.specs.declared.Side.{Side}
+use Rattle.codegen.specs.declared.Side.TheVariants.{Success, Failure}
+use Rattle.codegen.specs.declared.Exit.{Exit}
+use Rattle.codegen.specs.declared.Exit.TheVariants.{Skip, Leave}
+use Rattle.codegen.specs.declared.Slot.{Slot}
+use Rattle.codegen.specs.declared.Slot.TheVariants.{Jt, Jf}
+use Rattle.codegen.specs.declared.Line.{Line}
+use Rattle.codegen.specs.declared.Line.TheVariants.{Plain, Branch, Jump}
+use Rattle.codegen.specs.Block.{bytes}
 use Rattle.codegen.specs.Block.{Block, settle, turn, swap, swap_line, same}
 
 -- how a block ends: it fell off its end with n lines still to skip, it took an open exit, or a load left the frame.
@@ -31,23 +43,23 @@ abbrev pub inside : ℕ → ℕ → List ℕ → Bool
 inside n at f = leb (at + n) (length f)
 
 abbrev pub compare : Test → ℕ → ℕ → Bool
-compare jeq a k = eqb a k
-compare jgt a k = ltb k a
-compare jge a k = leb k a
-compare jset a k = not (eqb (bit_and a k) 0)
+compare Jeq a k = eqb a k
+compare Jgt a k = ltb k a
+compare Jge a k = leb k a
+compare Jset a k = not (eqb (bit_and a k) 0)
 
 -- whether a test jumps by its slot
 abbrev pub taken : Slot → Bool → Bool
-taken jt b = b
-taken jf b = not b
+taken Jt b = b
+taken Jf b = not b
 
 abbrev pub indexed : ℕ → ℕ → ℕ
 indexed x k = (x + k) % 2 ^ 32
 
 -- a line's way, and then the rest of its block
 abbrev pub pursue : Went → (ℕ → ℕ → ℕ → ℕ → Ending) → ℕ → Ending
-pursue (to (skip n) a x) r c = r n c a x
-pursue (to (leave e) a x) r c = left e c a x
+pursue (to (Skip n) a x) r c = r n c a x
+pursue (to (Leave e) a x) r c = left e c a x
 pursue out r c = cut c
 
 -- a block's outcome, and then the next block
@@ -65,13 +77,13 @@ redirect e d (cut c) = cut c
 -- success becomes failure
 abbrev pub turned : Ending → Ending
 turned (fell n c a x) = fell n c a x
-turned (left p c a x) = left failure c a x
+turned (left p c a x) = left Failure c a x
 turned (cut c) = cut c
 
 pursue_append : (w : Went) (r s k : ℕ → ℕ → ℕ → ℕ → Ending) (c : ℕ) → ((n c a x : ℕ) → r n c a x ≡ and_then (s n c a x) k)
     → pursue w r c ≡ and_then (pursue w s c) k
-pursue_append (to (skip n) a x) r s k c h = h n c a x
-pursue_append (to (leave e) a x) r s k c h = refl
+pursue_append (to (Skip n) a x) r s k c h = h n c a x
+pursue_append (to (Leave e) a x) r s k c h = refl
 pursue_append out r s k c h = refl
 
 pub length_settle : (e : Side) (d : ℕ) (b : Block) → length (settle e d b) ≡ length b
@@ -81,16 +93,16 @@ length_settle e d (l ∷ b) = ap suc (length_settle e d b)
 
 module _ (f : List ℕ) where
   abbrev pub operate : Op → ℕ → ℕ → Went
-  operate (ld_abs w k) a x = loaded (inside (bytes w) k f) (to (skip 0) (be (bytes w) k f) x)
-  operate (ldh_ind k) a x = loaded (inside 2 (indexed x k) f) (to (skip 0) (be 2 (indexed x k) f) x)
-  operate (ldx_msh k) a x = loaded (inside 1 k f) (to (skip 0) a (4 * (be 1 k f % 16)))
-  operate (ldx_imm k) a x = to (skip 0) a k
-  operate (and_k k) a x = to (skip 0) (bit_and a k) x
+  operate (LdAbs w k) a x = loaded (inside (bytes w) k f) (to (Skip 0) (be (bytes w) k f) x)
+  operate (LdhInd k) a x = loaded (inside 2 (indexed x k) f) (to (Skip 0) (be 2 (indexed x k) f) x)
+  operate (LdxMsh k) a x = loaded (inside 1 k f) (to (Skip 0) a (4 * (be 1 k f % 16)))
+  operate (LdxImm k) a x = to (Skip 0) a k
+  operate (AndK k) a x = to (Skip 0) (bit_and a k) x
 
   abbrev pub line : Line → ℕ → ℕ → Went
-  line (op o) a x = operate o a x
-  line (test t k s p) a x = to (cond (taken s (compare t a k)) p (skip 0)) a x
-  line (ja p) a x = to p a x
+  line (Plain o) a x = operate o a x
+  line (Branch t k s p) a x = to (cond (taken s (compare t a k)) p (Skip 0)) a x
+  line (Jump p) a x = to p a x
 
   -- the block's run, with n lines to skip first
   unfoldable pub run : Block → ℕ → ℕ → ℕ → ℕ → Ending
@@ -122,42 +134,42 @@ module _ (f : List ℕ) where
   module _ (e : Side) (e' : Exit) (h : Ending → Ending) (r s : ℕ → ℕ → ℕ → ℕ → Ending)
       (exits : (p : Exit) (a x c : ℕ) → pursue (to (swap e e' p) a x) r c ≡ h (pursue (to p a x) s c))
       (cuts : (c : ℕ) → cut c ≡ h (cut c)) where
-    branch_swap : (b : Bool) (p : Exit) (a x c : ℕ) → pursue (to (cond b (swap e e' p) (skip 0)) a x) r c ≡ h (pursue (to (cond b p (skip 0)) a x) s c)
+    branch_swap : (b : Bool) (p : Exit) (a x c : ℕ) → pursue (to (cond b (swap e e' p) (Skip 0)) a x) r c ≡ h (pursue (to (cond b p (Skip 0)) a x) s c)
     branch_swap true p a x c = exits p a x c
-    branch_swap false p a x c = exits (skip 0) a x c
+    branch_swap false p a x c = exits (Skip 0) a x c
 
-    load_swap : (b : Bool) (a x c : ℕ) → pursue (loaded b (to (skip 0) a x)) r c ≡ h (pursue (loaded b (to (skip 0) a x)) s c)
-    load_swap true a x c = exits (skip 0) a x c
+    load_swap : (b : Bool) (a x c : ℕ) → pursue (loaded b (to (Skip 0) a x)) r c ≡ h (pursue (loaded b (to (Skip 0) a x)) s c)
+    load_swap true a x c = exits (Skip 0) a x c
     load_swap false a x c = cuts c
 
     line_swap : (l : Line) (a x c : ℕ) → pursue (line (swap_line e e' l) a x) r c ≡ h (pursue (line l a x) s c)
-    line_swap (op (ld_abs w k)) a x c = load_swap (inside (bytes w) k f) (be (bytes w) k f) x c
-    line_swap (op (ldh_ind k)) a x c = load_swap (inside 2 (indexed x k) f) (be 2 (indexed x k) f) x c
-    line_swap (op (ldx_msh k)) a x c = load_swap (inside 1 k f) a (4 * (be 1 k f % 16)) c
-    line_swap (op (ldx_imm k)) a x c = exits (skip 0) a k c
-    line_swap (op (and_k k)) a x c = exits (skip 0) (bit_and a k) x c
-    line_swap (test t k z p) a x c = branch_swap (taken z (compare t a k)) p a x c
-    line_swap (ja p) a x c = exits p a x c
+    line_swap (Plain (LdAbs w k)) a x c = load_swap (inside (bytes w) k f) (be (bytes w) k f) x c
+    line_swap (Plain (LdhInd k)) a x c = load_swap (inside 2 (indexed x k) f) (be 2 (indexed x k) f) x c
+    line_swap (Plain (LdxMsh k)) a x c = load_swap (inside 1 k f) a (4 * (be 1 k f % 16)) c
+    line_swap (Plain (LdxImm k)) a x c = exits (Skip 0) a k c
+    line_swap (Plain (AndK k)) a x c = exits (Skip 0) (bit_and a k) x c
+    line_swap (Branch t k z p) a x c = branch_swap (taken z (compare t a k)) p a x c
+    line_swap (Jump p) a x c = exits p a x c
 
   -- ---- settling: the side e falls off the end, with d lines to skip
 
   module _ (e : Side) (d m : ℕ) (r s : ℕ → ℕ → ℕ → ℕ → Ending)
       (past : (c a x : ℕ) → r m c a x ≡ fell d c a x)
       (again : (n c a x : ℕ) → r n c a x ≡ redirect e d (s n c a x)) where
-    side_settle : (b : Bool) (p : Side) (a x c : ℕ) → pursue (to (cond b (skip m) (leave p)) a x) r c ≡ cond b (fell d c a x) (left p c a x)
+    side_settle : (b : Bool) (p : Side) (a x c : ℕ) → pursue (to (cond b (Skip m) (Leave p)) a x) r c ≡ cond b (fell d c a x) (left p c a x)
     side_settle true p a x c = past c a x
     side_settle false p a x c = refl
 
-    exit_settle : (p : Exit) (a x c : ℕ) → pursue (to (swap e (skip m) p) a x) r c ≡ redirect e d (pursue (to p a x) s c)
-    exit_settle (skip n) a x c = again n c a x
-    exit_settle (leave p) a x c = side_settle (same e p) p a x c
+    exit_settle : (p : Exit) (a x c : ℕ) → pursue (to (swap e (Skip m) p) a x) r c ≡ redirect e d (pursue (to p a x) s c)
+    exit_settle (Skip n) a x c = again n c a x
+    exit_settle (Leave p) a x c = side_settle (same e p) p a x c
 
   pub run_settle : (e : Side) (d : ℕ) (b : Block) (n c a x : ℕ) → run (settle e d b) n c a x ≡ redirect e d (run b n c a x)
   unfolding run settle
   run_settle e d [] n c a x = refl
   run_settle e d (l ∷ b) (suc n) c a x = run_settle e d b n c a x
   run_settle e d (l ∷ b) zero c a x =
-      line_swap e (skip (length b + d)) (redirect e d) (run (settle e d b)) (run b)
+      line_swap e (Skip (length b + d)) (redirect e d) (run (settle e d b)) (run b)
       (exit_settle e d (length b + d) (run (settle e d b)) (run b)
       (λ c a x. rw (← length_settle e d b) (run_past (settle e d b) d c a x))
       (run_settle e d b))
@@ -166,14 +178,14 @@ module _ (f : List ℕ) where
   -- ---- turning: success becomes failure
 
   exit_turn : (r s : ℕ → ℕ → ℕ → ℕ → Ending) → ((n c a x : ℕ) → r n c a x ≡ turned (s n c a x)) → (p : Exit) (a x c : ℕ)
-      → pursue (to (swap success (leave failure) p) a x) r c ≡ turned (pursue (to p a x) s c)
-  exit_turn r s again (skip n) a x c = again n c a x
-  exit_turn r s again (leave success) a x c = refl
-  exit_turn r s again (leave failure) a x c = refl
+      → pursue (to (swap Success (Leave Failure) p) a x) r c ≡ turned (pursue (to p a x) s c)
+  exit_turn r s again (Skip n) a x c = again n c a x
+  exit_turn r s again (Leave Success) a x c = refl
+  exit_turn r s again (Leave Failure) a x c = refl
 
   pub run_turn : (b : Block) (n c a x : ℕ) → run (turn b) n c a x ≡ turned (run b n c a x)
   unfolding run turn
   run_turn [] n c a x = refl
   run_turn (l ∷ b) (suc n) c a x = run_turn b n c a x
   run_turn (l ∷ b) zero c a x =
-      line_swap success (leave failure) turned (run (turn b)) (run b) (exit_turn (run (turn b)) (run b) (run_turn b)) (λ c. refl) l a x (suc c)
+      line_swap Success (Leave Failure) turned (run (turn b)) (run b) (exit_turn (run (turn b)) (run b) (run_turn b)) (λ c. refl) l a x (suc c)

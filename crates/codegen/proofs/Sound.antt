@@ -18,7 +18,15 @@ use Rattle.ast.specs.declared.LinkType.{LinkType}
 use Rattle.ast.specs.declared.LinkType.TheVariants.{Ethernet, RawIp, LinuxSll}
 use Rattle.ast.specs.Tree.{Expr, Leaf, And, Or, Not, records}
 use Rattle.ast.proofs.Proper.{Proper}
-use Rattle.codegen.specs.Block.{byte, half, word, ld_abs, ldh_ind, ldx_msh, ldx_imm, and_k, jeq, jgt, jge, jset, success, failure, Exit, skip, leave, jt, jf, Line, op, test, ja}
+use Rattle.codegen.specs.declared.Width.TheVariants.{Byte, Half, Word}
+use Rattle.codegen.specs.declared.Op.TheVariants.{LdAbs, LdhInd, LdxMsh, LdxImm, AndK}
+use Rattle.codegen.specs.declared.Test.TheVariants.{Jeq, Jgt, Jge, Jset}
+use Rattle.codegen.specs.declared.Side.TheVariants.{Success, Failure}
+use Rattle.codegen.specs.declared.Exit.{Exit}
+use Rattle.codegen.specs.declared.Exit.TheVariants.{Skip, Leave}
+use Rattle.codegen.specs.declared.Slot.TheVariants.{Jt, Jf}
+use Rattle.codegen.specs.declared.Line.{Line}
+use Rattle.codegen.specs.declared.Line.TheVariants.{Plain, Branch, Jump}
 use Rattle.codegen.specs.Block.{Block, settle, distance, far_line, far, assemble}
 use Rattle.codegen.specs.Emit.{net_offset, emit}
 use Rattle.codegen.specs.Compile.{entry_facts, returns, finished, compile}
@@ -69,27 +77,27 @@ AllStand [] = Unit {0}
 AllStand (x ∷ p) = Stands (length p) x × AllStand p
 
 near_exit : (m : ℕ) (p : Exit) → Lands m p → ltb 255 (distance p) ≡ false → (distance p ≤ m) × (distance p ≤ 255)
-near_exit m (skip n) h e = (h, ltb-false 255 n e)
-near_exit m (leave s) h e = omega arith
+near_exit m (Skip n) h e = (h, ltb-false 255 n e)
+near_exit m (Leave s) h e = omega arith
 
 line_stands : (N m : ℕ) → N < 2 ^ 32 → (l : Line) → MadeLine N (m + 1) l → far_line l ≡ false → Stands (m + 2) (assemble l)
 unfolding assemble
-line_stands N m n (op (ld_abs byte k)) h e = omega arith
-line_stands N m n (op (ld_abs half k)) h e = omega arith
-line_stands N m n (op (ld_abs word k)) h e = omega arith
-line_stands N m n (op (ldh_ind k)) h e = omega arith
-line_stands N m n (op (ldx_msh k)) h e = omega arith
-line_stands N m n (op (ldx_imm k)) h e = omega arith
-line_stands N m n (op (and_k k)) h e = omega arith
-line_stands N m n (test jeq k jt p) h e = omega (arith, near_exit (m + 1) p h.1 e)
-line_stands N m n (test jeq k jf p) h e = omega (arith, near_exit (m + 1) p h.1 e)
-line_stands N m n (test jgt k jt p) h e = omega (arith, near_exit (m + 1) p h.1 e)
-line_stands N m n (test jgt k jf p) h e = omega (arith, near_exit (m + 1) p h.1 e)
-line_stands N m n (test jge k jt p) h e = omega (arith, near_exit (m + 1) p h.1 e)
-line_stands N m n (test jge k jf p) h e = omega (arith, near_exit (m + 1) p h.1 e)
-line_stands N m n (test jset k jt p) h e = omega (arith, near_exit (m + 1) p h.1 e)
-line_stands N m n (test jset k jf p) h e = omega (arith, near_exit (m + 1) p h.1 e)
-line_stands N m n (ja p) h e = omega (arith, near_exit (m + 1) p h e)
+line_stands N m n (Plain (LdAbs Byte k)) h e = omega arith
+line_stands N m n (Plain (LdAbs Half k)) h e = omega arith
+line_stands N m n (Plain (LdAbs Word k)) h e = omega arith
+line_stands N m n (Plain (LdhInd k)) h e = omega arith
+line_stands N m n (Plain (LdxMsh k)) h e = omega arith
+line_stands N m n (Plain (LdxImm k)) h e = omega arith
+line_stands N m n (Plain (AndK k)) h e = omega arith
+line_stands N m n (Branch Jeq k Jt p) h e = omega (arith, near_exit (m + 1) p h.1 e)
+line_stands N m n (Branch Jeq k Jf p) h e = omega (arith, near_exit (m + 1) p h.1 e)
+line_stands N m n (Branch Jgt k Jt p) h e = omega (arith, near_exit (m + 1) p h.1 e)
+line_stands N m n (Branch Jgt k Jf p) h e = omega (arith, near_exit (m + 1) p h.1 e)
+line_stands N m n (Branch Jge k Jt p) h e = omega (arith, near_exit (m + 1) p h.1 e)
+line_stands N m n (Branch Jge k Jf p) h e = omega (arith, near_exit (m + 1) p h.1 e)
+line_stands N m n (Branch Jset k Jt p) h e = omega (arith, near_exit (m + 1) p h.1 e)
+line_stands N m n (Branch Jset k Jf p) h e = omega (arith, near_exit (m + 1) p h.1 e)
+line_stands N m n (Jump p) h e = omega (arith, near_exit (m + 1) p h e)
 
 or_none : (b c : Bool) → (b || c) ≡ false → (b ≡ false) × (c ≡ false)
 or_none true c e = absurd (true≢false e)
@@ -124,10 +132,10 @@ returns_verdict f m zero t a x e = let z : ◌≡◌ {A = ℕ} 0 1 = cc in omega
 returns_verdict f m (suc zero) t a x e = let z : ◌≡◌ {A = ℕ} 0 1 = cc in omega arith
 returns_verdict f m (suc (suc n)) t a x e = let z : ◌≡◌ {A = ℕ} 0 1 = cc in omega arith
 
-finish_long : (f : List ℕ) (o : Ending) (r : Outcome) → Uncut o → Agrees memory (exec f returns) (redirect failure 1 (redirect success 0 o)) r → r.verdict ≡ Short → ⊥
+finish_long : (f : List ℕ) (o : Ending) (r : Outcome) → Uncut o → Agrees memory (exec f returns) (redirect Failure 1 (redirect Success 0 o)) r → r.verdict ≡ Short → ⊥
 finish_long f (fell n c a x) r u e k = returns_verdict f memory n c a x (rw e at k)
-finish_long f (left success c a x) r u e k = returns_verdict f memory 0 c a x (rw e at k)
-finish_long f (left failure c a x) r u e k = returns_verdict f memory 1 c a x (rw e at k)
+finish_long f (left Success c a x) r u e k = returns_verdict f memory 0 c a x (rw e at k)
+finish_long f (left Failure c a x) r u e k = returns_verdict f memory 1 c a x (rw e at k)
 finish_long f (cut c) r u e k = u
 
 -- ---- programs
@@ -140,7 +148,7 @@ net_small LinuxSll = omega arith
 program_stands : (N : ℕ) → N < 2 ^ 32 → (b : Block) → Made N 0 b → far (finished b) ≡ false → AllStand (program_of b)
 unfolding finished
 program_stands N n b h e =
-    block_stands N n (settle failure 1 (settle success 0 b)) (made_settle N 0 1 failure (settle success 0 b) (omega arith) (made_settle N 0 0 success b (omega arith) h)) e
+    block_stands N n (settle Failure 1 (settle Success 0 b)) (made_settle N 0 1 Failure (settle Success 0 b) (omega arith) (made_settle N 0 0 Success b (omega arith) h)) e
 
 shaped_sound : (L : LinkType) {n : ℕ} (b : Block) → n ≤ 3944 → Shaped (net_offset L + 64) n b → far (finished b) ≡ false → Sound L (program_of b)
 shaped_sound L b h s e =

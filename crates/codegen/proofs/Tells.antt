@@ -15,7 +15,8 @@ use Rattle.ast.specs.declared.LinkType.TheVariants.{Ethernet, RawIp, LinuxSll}
 use Rattle.ast.specs.Tree.{Expr}
 use Rattle.ast.proofs.Proper.{Proper}
 use Rattle.direct.specs.Reading.{kind, reads}
-use Rattle.codegen.specs.Block.{Block, success, failure}
+use Rattle.codegen.specs.declared.Side.TheVariants.{Success, Failure}
+use Rattle.codegen.specs.Block.{Block}
 use Rattle.codegen.specs.Emit.{emit}
 use Rattle.codegen.specs.Compile.{entry_facts, returns, finished, compile}
 use Rattle.codegen.proofs.Semantics.{Ending, fell, left, cut, redirect, run}
@@ -31,12 +32,12 @@ abbrev pub Tells : Bool → Verdict → Type 0
 Tells P v = (v ≡ Short) ⊎ (v ≡ cond P Accepted Dropped)
 
 ending_tells : (f : List ℕ) (S : Type 0) (D : Known) (P : Bool) (o : Ending) (r : Outcome) → Right S P D o
-    → Agrees memory (exec f returns) (redirect failure 1 (redirect success 0 o)) r → Tells P r.verdict
+    → Agrees memory (exec f returns) (redirect Failure 1 (redirect Success 0 o)) r → Tells P r.verdict
 unfolding exec effect
 ending_tells f S D P (fell zero t a x) r h e = inr (rw (e, h.0))
 ending_tells f S D P (fell (suc n) t a x) r h e = absurd h
-ending_tells f S D P (left success t a x) r h e = inr (rw (e, h.1))
-ending_tells f S D P (left failure t a x) r h e = inr (rw (e, h))
+ending_tells f S D P (left Success t a x) r h e = inr (rw (e, h.1))
+ending_tells f S D P (left Failure t a x) r h e = inr (rw (e, h))
 ending_tells f S D P (cut t) r h e = inl (rw e)
 
 block_tells : (f : List ℕ) (S : Type 0) (G D : Known) (b : Block) (P : Bool) → Decides f S G b P D → G 0 0 → Tells P (inner (program_of b) f).verdict

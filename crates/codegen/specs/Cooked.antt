@@ -1,24 +1,33 @@
 -- T-03, "Cooked captures have no destination address", in the customer's words: what the generator and the direct reading make of ether
 -- addresses on LinuxSll, and that every other tree keeps its program. `proofs/Cooked.antt` proves the page below.
+use Rattle.std.specs.Prelude.{Option, None, Some}
+use Rattle.std.specs.Prelude.{Ok, Err}
 use Rattle.std.specs.Prelude.{ℕ, ◌%◌, ◌≡◌, List, [], ◌∷◌, ◌++◌, map, Bool, true, false, cond, ◌&&◌, ◌||◌, ◌⊎◌, eqb}
-use Rattle.std.proofs.Math.Option.{Option, none, some}
 use Rattle.error.specs.declared.Refusal.{Refusal}
 use Rattle.error.specs.declared.Refusal.TheVariants.{EtherOnRaw, FarJump, CookedAddress}
-use Rattle.error.specs.Answer.{Out, refused, done, ◌>>=◌}
+use Rattle.error.specs.Answer.{Out, ◌>>=◌}
 use Rattle.bpf.specs.Bytes.{be}
 use Rattle.bpf.specs.declared.Insn.{Insn}
 use Rattle.ast.specs.declared.LinkType.{LinkType}
 use Rattle.ast.specs.declared.LinkType.TheVariants.{LinuxSll}
 use Rattle.ast.specs.declared.Dir.{Dir}
 use Rattle.ast.specs.declared.Dir.TheVariants.{SrcOrDst, Src, Dst, SrcAndDst}
-use Rattle.ast.specs.Tree.{Primitive, Protocol, Host4, Host6, Net, Net6, Port, PortRange, EtherHost, EtherProto, EtherMulticast, IpBroadcast, IpMulticast, Ip6Multicast, IpProtoChain, Ip6ProtoChain}
+use Rattle.ast.specs.declared.Primitive.{Primitive}
+use Rattle.ast.specs.declared.Primitive.TheVariants.{Protocol, Host4, Host6, Net, Net6, Port, PortRange, EtherHost, EtherProto, EtherMulticast, IpBroadcast, IpMulticast, Ip6Multicast, IpProtoChain, Ip6ProtoChain}
 use Rattle.ast.specs.Tree.{Expr, Leaf, And, Or, Not}
 use Rattle.direct.specs.Reading.{sides, bytes_are, reads_primitive}
 use Rattle.codegen.specs.declared.Facts.{Facts}
 use Rattle.codegen.specs.Facts.{meet, intersect}
 use Rattle.codegen.specs.Protocols.{l4set_for}
 use Rattle.codegen.specs.Guards.{required_guards}
-use Rattle.codegen.specs.Block.{byte, half, word, ld_abs, jeq, jset, success, failure, leave, jf, op, test, Block, settle, turn, otherwise, resolved, assemble}
+use Rattle.codegen.specs.declared.Width.TheVariants.{Byte, Half, Word}
+use Rattle.codegen.specs.declared.Op.TheVariants.{LdAbs}
+use Rattle.codegen.specs.declared.Test.TheVariants.{Jeq, Jset}
+use Rattle.codegen.specs.declared.Side.TheVariants.{Success, Failure}
+use Rattle.codegen.specs.declared.Exit.TheVariants.{Leave}
+use Rattle.codegen.specs.declared.Slot.TheVariants.{Jf}
+use Rattle.codegen.specs.declared.Line.TheVariants.{Plain, Branch}
+use Rattle.codegen.specs.Block.{Block, settle, turn, otherwise, resolved, assemble}
 use Rattle.codegen.specs.Emit.{is_raw, Code, code, restored_after, check_blocks, check_mac, emit_primitive, or_hoist}
 use Rattle.codegen.specs.Compile.{entry_facts, returns, finished, compile}
 
@@ -26,36 +35,36 @@ use Rattle.codegen.specs.Compile.{entry_facts, returns, finished, compile}
 
 -- "kind 17 is now accepted only with direction 1"
 abbrev pub of_address : Dir → Option Refusal
-of_address SrcOrDst = some CookedAddress
-of_address Src = none
-of_address Dst = some CookedAddress
-of_address SrcAndDst = some CookedAddress
+of_address SrcOrDst = Some CookedAddress
+of_address Src = None
+of_address Dst = Some CookedAddress
+of_address SrcAndDst = Some CookedAddress
 
 abbrev pub refusal_in : {A : Type 0} → Out A → Option Refusal
-refusal_in (refused r) = some r
-refusal_in (done a) = none
+refusal_in (Err r) = Some r
+refusal_in (Ok a) = None
 
 -- what turns a condition down there, wherever it stands: 15, and number 6 as before
 abbrev pub turns_down : Primitive → Option Refusal
-turns_down (Protocol p) = none
-turns_down (Host4 d a) = none
-turns_down (Host6 d a) = none
-turns_down (Net d a m) = none
-turns_down (Net6 d p a) = none
+turns_down (Protocol p) = None
+turns_down (Host4 d a) = None
+turns_down (Host6 d a) = None
+turns_down (Net d a m) = None
+turns_down (Net6 d p a) = None
 turns_down (Port d p k) = refusal_in (l4set_for p)
 turns_down (PortRange d p lo hi) = refusal_in (l4set_for p)
 turns_down (EtherHost d a) = of_address d
-turns_down (EtherProto v) = none
-turns_down EtherMulticast = some CookedAddress
-turns_down IpBroadcast = none
-turns_down IpMulticast = none
-turns_down Ip6Multicast = none
-turns_down (IpProtoChain p) = none
-turns_down (Ip6ProtoChain p) = none
+turns_down (EtherProto v) = None
+turns_down EtherMulticast = Some CookedAddress
+turns_down IpBroadcast = None
+turns_down IpMulticast = None
+turns_down Ip6Multicast = None
+turns_down (IpProtoChain p) = None
+turns_down (Ip6ProtoChain p) = None
 
 abbrev pub or_else : Option Refusal → Option Refusal → Option Refusal
-or_else none later = later
-or_else (some r) later = some r
+or_else None later = later
+or_else (Some r) later = Some r
 
 -- the first such condition, in the order of the file's records
 unfoldable pub first_down : Expr → Option Refusal
@@ -94,7 +103,7 @@ holds_ether (Not t) = holds_ether t
 module _ (L : LinkType) where
   -- number 7, "RawIp with kind 17 or 19"
   abbrev pub ether_before : Block → Facts → Out Code
-  ether_before b g = cond (is_raw L) (refused EtherOnRaw) (done (code b g))
+  ether_before b g = cond (is_raw L) (Err EtherOnRaw) (Ok (code b g))
 
   -- "source 6-11, destination 0-5, on LinuxSll too"
   unfoldable pub primitive_before : Primitive → Facts → Out Code
@@ -102,7 +111,7 @@ module _ (L : LinkType) where
   primitive_before (EtherHost Src a) = ether_before (check_mac a 6)
   primitive_before (EtherHost Dst a) = ether_before (check_mac a 0)
   primitive_before (EtherHost SrcAndDst a) = ether_before (check_blocks SrcAndDst (check_mac a 0) (check_mac a 6))
-  primitive_before EtherMulticast = ether_before (op (ld_abs byte 0) ∷ test jset 0x01 jf (leave failure) ∷ [])
+  primitive_before EtherMulticast = ether_before (Plain (LdAbs Byte 0) ∷ Branch Jset 0x01 Jf (Leave Failure) ∷ [])
   primitive_before (Protocol p) = emit_primitive L (Protocol p)
   primitive_before (Host4 d a) = emit_primitive L (Host4 d a)
   primitive_before (Host6 d a) = emit_primitive L (Host6 d a)
@@ -123,25 +132,25 @@ module _ (L : LinkType) (leaf : Primitive → Facts → Out Code) where
   walk (Leaf p) g = leaf p g
   walk (And l r) g = do
     b ← walk l g
-    b' ← resolved (settle success 0 b.block)
+    b' ← resolved (settle Success 0 b.block)
     c ← walk r b.facts
-    done (code (b' ++ c.block) c.facts)
+    Ok (code (b' ++ c.block) c.facts)
   walk (Or l r) g = do
     h ← or_hoist L (intersect (required_guards l) (required_guards r)) g
     b ← walk l h.facts
     b' ← resolved (otherwise b.block)
     c ← walk r (restored_after b.block h.facts)
-    done (code (h.block ++ (b' ++ c.block)) (meet b.facts c.facts))
+    Ok (code (h.block ++ (b' ++ c.block)) (meet b.facts c.facts))
   walk (Not t) g = do
     b ← walk t g
     b' ← resolved (turn (otherwise b.block))
-    done (code b' (restored_after b.block g))
+    Ok (code b' (restored_after b.block g))
 
   unfoldable pub walked : Expr → Out (List Insn)
   walked t = do
     c ← walk t (entry_facts L)
     b ← resolved (finished c.block)
-    done (map assemble b ++ returns)
+    Ok (map assemble b ++ returns)
 
 abbrev pub compile_before : LinkType → Expr → Out (List Insn)
 compile_before L t = walked L (primitive_before L) t
@@ -150,18 +159,18 @@ compile_before L t = walked L (primitive_before L) t
 
 -- a load, and a test of it whose jf fails
 abbrev length_is_six : Block
-length_is_six = op (ld_abs half 4) ∷ test jeq 6 jf (leave failure) ∷ []
+length_is_six = Plain (LdAbs Half 4) ∷ Branch Jeq 6 Jf (Leave Failure) ∷ []
 
 abbrev address_is : List ℕ → Block
-address_is a = op (ld_abs word 6) ∷ test jeq (be 4 0 a) jf (leave failure) ∷ op (ld_abs half 10) ∷ test jeq (be 2 4 a) jf (leave failure) ∷ []
+address_is a = Plain (LdAbs Word 6) ∷ Branch Jeq (be 4 0 a) Jf (Leave Failure) ∷ Plain (LdAbs Half 10) ∷ Branch Jeq (be 2 4 a) Jf (Leave Failure) ∷ []
 
 pub record Cooked : Type 0 where
   -- "On LinuxSll, kind 17 is now accepted only with direction 1,": whatever is known before it
-  pub only : (d : Dir) (a : List ℕ) (g : Facts) → ¬ (d ≡ Src) → emit_primitive LinuxSll (EtherHost d a) g ≡ refused CookedAddress
+  pub only : (d : Dir) (a : List ℕ) (g : Facts) → ¬ (d ≡ Src) → emit_primitive LinuxSll (EtherHost d a) g ≡ Err CookedAddress
   -- "and kind 19 is turned down."
-  pub multicast : (g : Facts) → emit_primitive LinuxSll EtherMulticast g ≡ refused CookedAddress
+  pub multicast : (g : Facts) → emit_primitive LinuxSll EtherMulticast g ≡ Err CookedAddress
   -- "The sender test also wants the 16-bit address length at byte 4 to be 6; that test comes first.": nothing is learned
-  pub sender : (a : List ℕ) (g : Facts) → emit_primitive LinuxSll (EtherHost Src a) g ≡ done (code (length_is_six ++ address_is a) g)
+  pub sender : (a : List ℕ) (g : Facts) → emit_primitive LinuxSll (EtherHost Src a) g ≡ Ok (code (length_is_six ++ address_is a) g)
   -- and so is it read directly; a test of a destination is false
   pub reads : (f : List ℕ) (d : Dir) (a : List ℕ) → reads_primitive LinuxSll f (EtherHost d a) ≡ sides d (eqb (be 2 4 f) 6 && bytes_are f 6 a) false
   pub nobody : (f : List ℕ) → reads_primitive LinuxSll f EtherMulticast ≡ false
@@ -169,9 +178,9 @@ pub record Cooked : Type 0 where
   -- alone;
   pub walks : (L : LinkType) (t : Expr) → compile L t ≡ walked L (emit_primitive L) t
   -- so the first condition of the file that is turned down gives its number, unless a jump is too far;
-  pub first : (t : Expr) (r : Refusal) → first_down t ≡ some r → (compile LinuxSll t ≡ refused r) ⊎ (compile LinuxSll t ≡ refused FarJump)
+  pub first : (t : Expr) (r : Refusal) → first_down t ≡ Some r → (compile LinuxSll t ≡ Err r) ⊎ (compile LinuxSll t ≡ Err FarJump)
   -- without such a condition there is a program, unless a jump is too far
-  pub free : (t : Expr) (r : Refusal) → first_down t ≡ none → compile LinuxSll t ≡ refused r → r ≡ FarJump
+  pub free : (t : Expr) (r : Refusal) → first_down t ≡ None → compile LinuxSll t ≡ Err r → r ≡ FarJump
   -- "Such trees no longer equal the Rust": the others still do, as they have the program, or the number, that they had;
   pub before : (L : LinkType) (t : Expr) → (¬ (L ≡ LinuxSll)) ⊎ (holds_ether t ≡ false) → compile L t ≡ compile_before L t
   -- and on other links kinds 17 and 19 are read directly as document 01 has them

@@ -1,12 +1,8 @@
 -- "Facts: ethertype, IPv4 protocol, IPv6 next header, ports ready." codegen.rs `L4Set`, `Facts`, `GuardSet`.
+use Rattle.std.specs.Prelude.{Option, None, Some}
 use Rattle.std.specs.Prelude.{ℕ, Bool, true, false, cond, ◌&&◌, ◌||◌, eqb}
-use Rattle.std.proofs.Math.Option.{Option, none, some}
 use Rattle.codegen.specs.declared.L4Set.{L4Set}
 use Rattle.codegen.specs.declared.L4Set.TheVariants.{One, TcpOrUdp}
-use Rattle.codegen.specs.declared.Known.{Known}
-use Rattle.codegen.specs.declared.Known.TheVariants.{Unknown, Is}
-use Rattle.codegen.specs.declared.Ports.{Ports}
-use Rattle.codegen.specs.declared.Ports.TheVariants.{NotReady, ReadyOne, ReadyTcpOrUdp}
 use Rattle.codegen.specs.declared.Facts.{Facts}
 use Rattle.codegen.specs.declared.GuardSet.{GuardSet}
 
@@ -27,73 +23,57 @@ same_set (One a) TcpOrUdp = false
 same_set TcpOrUdp (One b) = false
 same_set TcpOrUdp TcpOrUdp = true
 
--- "ports ready" for a set: codegen.rs `Some(set)`
-abbrev pub ready : L4Set → Ports
-ready (One n) = ReadyOne n
-ready TcpOrUdp = ReadyTcpOrUdp
-
--- the set, if there is one: codegen.rs `Option<L4Set>`
-abbrev pub ready_set : Ports → Option L4Set
-ready_set NotReady = none
-ready_set (ReadyOne n) = some (One n)
-ready_set ReadyTcpOrUdp = some TcpOrUdp
-
 -- the smallest set with both, if there is one
-abbrev pub join : L4Set → L4Set → Ports
-join a b = cond (same_set a b) (ready a) (cond (subset_of a TcpOrUdp && subset_of b TcpOrUdp) ReadyTcpOrUdp NotReady)
+abbrev pub join : L4Set → L4Set → Option L4Set
+join a b = cond (same_set a b) (Some a) (cond (subset_of a TcpOrUdp && subset_of b TcpOrUdp) (Some TcpOrUdp) None)
 
 -- ---- what may be known
 
 -- "A fact is only filled where empty"
-abbrev pub fill : Known → ℕ → Known
-fill Unknown v = Is v
-fill (Is w) v = Is w
+abbrev pub fill : Option ℕ → ℕ → Option ℕ
+fill None v = Some v
+fill (Some w) v = Some w
 
-abbrev pub holds : Known → ℕ → Bool
-holds Unknown v = false
-holds (Is w) v = eqb w v
-
--- what both know
-abbrev pub both : Known → Known → Known
-both Unknown y = Unknown
-both (Is a) Unknown = Unknown
-both (Is a) (Is b) = cond (eqb a b) (Is a) Unknown
+abbrev pub holds : Option ℕ → ℕ → Bool
+holds None v = false
+holds (Some w) v = eqb w v
 
 -- what either knows, the left first
-abbrev pub or : Known → Known → Known
-or Unknown y = y
-or (Is a) y = Is a
+abbrev pub or : {A : Type 0} → Option A → Option A → Option A
+or None y = y
+or (Some a) y = Some a
 
--- what is made of two sets, where there are two
-abbrev pub of_two : (L4Set → L4Set → Ports) → Option L4Set → Option L4Set → Ports
-of_two f none y = NotReady
-of_two f (some a) none = NotReady
-of_two f (some a) (some b) = f a b
+-- what is made of two values, where there are two
+abbrev pub of_two : {A : Type 0} → (A → A → Option A) → Option A → Option A → Option A
+of_two f None y = None
+of_two f (Some a) None = None
+of_two f (Some a) (Some b) = f a b
 
--- the set of both, where it is the same
-abbrev pub both_ports : Ports → Ports → Ports
-both_ports x y = of_two (λ a b. cond (same_set a b) (ready a) NotReady) (ready_set x) (ready_set y)
+-- what both know, where it is the same
+abbrev pub same : {A : Type 0} → (A → A → Bool) → Option A → Option A → Option A
+same eq = of_two (λ a b. cond (eq a b) (Some a) None)
 
-abbrev pub or_ports : Ports → Ports → Ports
-or_ports NotReady y = y
-or_ports (ReadyOne n) y = ReadyOne n
-or_ports ReadyTcpOrUdp y = ReadyTcpOrUdp
+abbrev pub both : Option ℕ → Option ℕ → Option ℕ
+both = same eqb
 
-abbrev pub join_ports : Ports → Ports → Ports
-join_ports x y = of_two join (ready_set x) (ready_set y)
+abbrev pub both_ports : Option L4Set → Option L4Set → Option L4Set
+both_ports = same same_set
+
+abbrev pub join_ports : Option L4Set → Option L4Set → Option L4Set
+join_ports = of_two join
 
 -- an earlier prologue, at least as strict, has passed
 abbrev pub as_strict : Option L4Set → L4Set → Bool
-as_strict none want = false
-as_strict (some have) want = subset_of have want
+as_strict None want = false
+as_strict (Some have) want = subset_of have want
 
-abbrev pub ready_for : Ports → L4Set → Bool
-ready_for x want = as_strict (ready_set x) want
+abbrev pub ready_for : Option L4Set → L4Set → Bool
+ready_for = as_strict
 
 -- ---- `Facts`
 
 abbrev pub no_facts : Facts
-no_facts = record { ethertype = Unknown; ip4_proto = Unknown; ip6_nh = Unknown; ports_ready = NotReady }
+no_facts = record { ethertype = None; ip4_proto = None; ip6_nh = None; ports_ready = None }
 
 abbrev pub learn_ethertype : Facts → ℕ → Facts
 learn_ethertype g v = record { ethertype = fill g.ethertype v; ip4_proto = g.ip4_proto; ip6_nh = g.ip6_nh; ports_ready = g.ports_ready }
@@ -105,12 +85,12 @@ abbrev pub learn_ip6 : Facts → ℕ → Facts
 learn_ip6 g v = record { ethertype = g.ethertype; ip4_proto = g.ip4_proto; ip6_nh = fill g.ip6_nh v; ports_ready = g.ports_ready }
 
 -- "'ports ready' is replaced"
-abbrev pub with_ports : Facts → Ports → Facts
+abbrev pub with_ports : Facts → Option L4Set → Facts
 with_ports g r = record { ethertype = g.ethertype; ip4_proto = g.ip4_proto; ip6_nh = g.ip6_nh; ports_ready = r }
 
 -- entry facts restored after code that may have written X: "without ports ready if the left wrote X"
 abbrev pub restored : Bool → Facts → Facts
-restored wrote_x g = with_ports g (cond wrote_x NotReady g.ports_ready)
+restored wrote_x g = with_ports g (cond wrote_x None g.ports_ready)
 
 -- "after it `Facts::meet` holds": what is known where two paths join
 abbrev pub meet : Facts → Facts → Facts
@@ -125,7 +105,7 @@ meet g h =
 -- ---- `GuardSet`
 
 abbrev pub no_guards : GuardSet
-no_guards = record { ethertype = Unknown; ip4_proto = Unknown; ip6_nh = Unknown; port_prereqs = NotReady }
+no_guards = record { ethertype = None; ip4_proto = None; ip6_nh = None; port_prereqs = None }
 
 -- guards of a conjunction: "anything either side requires"
 abbrev pub union : GuardSet → GuardSet → GuardSet
@@ -134,7 +114,7 @@ union g h =
       ethertype = or g.ethertype h.ethertype;
       ip4_proto = or g.ip4_proto h.ip4_proto;
       ip6_nh = or g.ip6_nh h.ip6_nh;
-      port_prereqs = or_ports g.port_prereqs h.port_prereqs;
+      port_prereqs = or g.port_prereqs h.port_prereqs;
     }
 
 -- guards of a disjunction: "only what both sides require"

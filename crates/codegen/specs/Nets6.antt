@@ -6,9 +6,15 @@ use Rattle.error.specs.Answer.{Out}
 use Rattle.bpf.specs.Program.{Each}
 use Rattle.ast.specs.declared.LinkType.{LinkType}
 use Rattle.ast.specs.declared.Dir.{Dir}
-use Rattle.ast.specs.Tree.{Host6, Net6}
+use Rattle.ast.specs.declared.Primitive.TheVariants.{Host6, Net6}
 use Rattle.codegen.specs.declared.Facts.{Facts}
-use Rattle.codegen.specs.Block.{half, ld_abs, and_k, failure, leave, jf, op, test, ja, Block}
+use Rattle.codegen.specs.declared.Width.TheVariants.{Half}
+use Rattle.codegen.specs.declared.Op.TheVariants.{LdAbs, AndK}
+use Rattle.codegen.specs.declared.Side.TheVariants.{Failure}
+use Rattle.codegen.specs.declared.Exit.TheVariants.{Leave}
+use Rattle.codegen.specs.declared.Slot.TheVariants.{Jf}
+use Rattle.codegen.specs.declared.Line.TheVariants.{Plain, Branch, Jump}
+use Rattle.codegen.specs.Block.{Block}
 use Rattle.codegen.specs.Emit.{net_offset, Code, need, check, check_blocks, mask16, check_net6, guarded, emit_primitive}
 
 -- ---- "work out the eight masks and the eight expected segments once for a net, before the segments are walked"
@@ -40,11 +46,11 @@ expected p a = under a (masks p)
 
 -- a segment whose mask is not full: the last one tested, and not even that under a mask of 0
 abbrev pub last_test : ℕ → ℕ → ℕ → Block
-last_test m e at = cond (eqb m 0) [] (op (ld_abs half at) ∷ op (and_k m) ∷ need e ∷ [])
+last_test m e at = cond (eqb m 0) [] (Plain (LdAbs Half at) ∷ Plain (AndK m) ∷ need e ∷ [])
 
 -- a plain compare while the mask is full
 unfoldable pub tests : List ℕ → List ℕ → ℕ → Block
-tests (m ∷ ms) (e ∷ es) at = cond (eqb m 0xffff) (check half at e ++ tests ms es (at + 2)) (last_test m e at)
+tests (m ∷ ms) (e ∷ es) at = cond (eqb m 0xffff) (check Half at e ++ tests ms es (at + 2)) (last_test m e at)
 tests (m ∷ ms) [] at = []
 tests [] es at = []
 
@@ -63,9 +69,9 @@ joined (s ∷ ss) = s * 2 ^ (16 * length ss) + joined ss
 -- around the lines gives the distance
 abbrev pub Aside : Block → Type 0
 Aside [] = Unit {0}
-Aside (op o ∷ b) = Aside b
-Aside (test t k s e ∷ b) = (s ≡ jf) × (e ≡ leave failure) × Aside b
-Aside (ja e ∷ b) = ⊥
+Aside (Plain o ∷ b) = Aside b
+Aside (Branch t k s e ∷ b) = (s ≡ Jf) × (e ≡ Leave Failure) × Aside b
+Aside (Jump e ∷ b) = ⊥
 
 -- the tests of source and of destination by direction, behind the ethertype's
 abbrev pub by_numbers : LinkType → Dir → List ℕ → List ℕ → Facts → Out Code

@@ -1,13 +1,13 @@
 -- "The twelve protocols are rows of one constant table": ethertype, IPv4 protocol and IPv6 next header, for guards and emission.
+use Rattle.std.specs.Prelude.{Option, None, Some}
+use Rattle.std.specs.Prelude.{Ok, Err}
 use Rattle.std.specs.Prelude.{ℕ, List, [], ◌∷◌, get_or}
-use Rattle.std.proofs.Math.Option.{Option, none, some}
 use Rattle.error.specs.declared.Refusal.TheVariants.{PortProtocol}
-use Rattle.error.specs.Answer.{Out, refused, done}
-use Rattle.ast.specs.Tree.{Proto, Ip, Ip6, Arp, Rarp, Tcp, Udp, Icmp, Icmp6, Igmp, Sctp, Num, Ip6Proto}
+use Rattle.error.specs.Answer.{Out}
+use Rattle.ast.specs.declared.Proto.{Proto}
+use Rattle.ast.specs.declared.Proto.TheVariants.{Ip, Ip6, Arp, Rarp, Tcp, Udp, Icmp, Icmp6, Igmp, Sctp, Num, Ip6Proto}
 use Rattle.codegen.specs.declared.L4Set.{L4Set}
 use Rattle.codegen.specs.declared.L4Set.TheVariants.{One, TcpOrUdp}
-use Rattle.codegen.specs.declared.Known.{Known}
-use Rattle.codegen.specs.declared.Known.TheVariants.{Unknown, Is}
 use Rattle.codegen.specs.declared.RowNumber.{RowNumber}
 use Rattle.codegen.specs.declared.RowNumber.TheVariants.{Absent, Fixed, Small}
 use Rattle.codegen.specs.declared.Row.{Row}
@@ -65,23 +65,23 @@ abbrev pub row_of : Proto → Row
 row_of p = get_or protocols (index_of p) (row 0 Absent Absent)
 
 -- a row's number with the small number n
-abbrev pub known : RowNumber → ℕ → Known
-known Absent n = Unknown
-known (Fixed p) n = Is p
-known Small n = Is n
+abbrev pub known : RowNumber → ℕ → Option ℕ
+known Absent n = None
+known (Fixed p) n = Some p
+known Small n = Some n
 
 -- `l4set_for`; number 6, "port or range with a protocol other than 0, 5, 6, 10"
 abbrev pub l4set_for : Option Proto → Out L4Set
-l4set_for none = done TcpOrUdp
-l4set_for (some Tcp) = done (One 6)
-l4set_for (some Udp) = done (One 17)
-l4set_for (some Sctp) = done (One 132)
-l4set_for (some Ip) = refused PortProtocol
-l4set_for (some Ip6) = refused PortProtocol
-l4set_for (some Arp) = refused PortProtocol
-l4set_for (some Rarp) = refused PortProtocol
-l4set_for (some Icmp) = refused PortProtocol
-l4set_for (some Icmp6) = refused PortProtocol
-l4set_for (some Igmp) = refused PortProtocol
-l4set_for (some (Num n)) = refused PortProtocol
-l4set_for (some (Ip6Proto n)) = refused PortProtocol
+l4set_for None = Ok TcpOrUdp
+l4set_for (Some Tcp) = Ok (One 6)
+l4set_for (Some Udp) = Ok (One 17)
+l4set_for (Some Sctp) = Ok (One 132)
+l4set_for (Some Ip) = Err PortProtocol
+l4set_for (Some Ip6) = Err PortProtocol
+l4set_for (Some Arp) = Err PortProtocol
+l4set_for (Some Rarp) = Err PortProtocol
+l4set_for (Some Icmp) = Err PortProtocol
+l4set_for (Some Icmp6) = Err PortProtocol
+l4set_for (Some Igmp) = Err PortProtocol
+l4set_for (Some (Num n)) = Err PortProtocol
+l4set_for (Some (Ip6Proto n)) = Err PortProtocol
