@@ -1,64 +1,87 @@
 -- How blocks are added: nothing, one line, and one block after another.
-use mathlib.Core.Path.{◌≡◌, refl, ap, ◌∙◌}
-use mathlib.Core.List.{List, [], ◌∷◌, ◌++◌, append-nil, append_assoc}
-use mathlib.Core.Bool.{Bool, true, false, cond, ◌||◌}
-use Prim.Native.Nat.{ℕ, suc, ◌+◌, ◌<◌, ◌≤◌}
-use native.Mathlib.Omega.{arith}
+use Rattle.std.proofs.Common.{◌≡◌, refl, ap, sym, ◌∙◌, List, [], ◌∷◌, ◌++◌, length, take, set, map, Bool, true, false, cond, ◌||◌, ℕ, suc, ◌+◌, ◌<◌, ◌≤◌, append_assoc, add-one, arith}
+use Rattle.std.proofs.Math.Seq.{take-suc-set}
+use mir.Val.{bool_byte}
+use lib.ListN.{length-append, length-set, length-take}
+use mathlib.Core.List.{append-nil}
 use native.Mathlib.Nat.{add-zero}
-use native.Mathlib.Numerals.{add-one}
-use lib.ListN.{length, take, set, length-append, length-set, length-take}
-use lib.Seq.{take-suc-set}
-use Rattle.codegen.specs.Block.{Side, success, failure, Exit, skip, leave, Line, Block, same, far, far_line, sets_x, writes_x}
-use Rattle.emit.specs.declared.Patches.{Patches}
-use Rattle.emit.specs.Lines.{packed, packs, exit_of, pending, places, writes}
-use Rattle.emit.specs.Grown.{Grew, Put, PutFailure, PutSuccess}
+use Rattle.bpf.specs.declared.Insn.{Insn}
+use Rattle.codegen.specs.declared.Side.{Side}
+use Rattle.codegen.specs.declared.Side.TheVariants.{Success, Failure}
+use Rattle.codegen.specs.declared.Exit.{Exit}
+use Rattle.codegen.specs.declared.Exit.TheVariants.{Skip, Leave}
+use Rattle.codegen.specs.declared.Line.{Line}
+use Rattle.codegen.specs.declared.Facts.{Facts}
+use Rattle.codegen.specs.Block.{Block, same, far, far_line, sets_x, writes_x, assemble}
+use Rattle.codegen.specs.Emit.{Code, code}
+use Rattle.emit.specs.declared.Patch.{Patch}
+use Rattle.emit.specs.declared.Emitter.{Emitter}
+use Rattle.emit.specs.Lines.{assembled, exit_of, patch_of, pending, patches, waiting, writes}
+use Rattle.emit.specs.Grown.{Space, Room, Put, Waits, Grew, Grows}
 
--- ---- stores at the end of the filled part of a list
+-- ---- one line
 
-put_one : (l : List ℕ) {n w v : ℕ} → n < length l → w ≡ v → take (n + 1) (set l n w) ≡ take n l ++ (v ∷ [])
-put_one l {n} {w} {v} h p = rw (add-one, p, take-suc-set)
+put_one : (l : List Insn) {n : ℕ} (x : Insn) → n < length l → take (n + 1) (set l n x) ≡ take n l ++ (x ∷ [])
+put_one l {n} x h = rw (add-one, take-suc-set)
 
-pub put_none : (l : List ℕ) (n : ℕ) → take n l ≡ take n l ++ []
-put_none l n = rw append-nil
+bit : (b : Bool) → bool_byte b ≡ cond b 1 0
+bit true = refl
+bit false = refl
 
-pub plus_none : (n : ℕ) → n ≡ n + 0
-plus_none n = omega arith
+pub one_line : {e p f : Emitter} (l : Line) → Put (assemble l) e p
+    → Waits (exit_of l) (patch_of l e.count) (record p { x_writes = p.x_writes + bool_byte (sets_x l) }) f → far_line l ≡ false → Grows (l ∷ []) e f
+unfolding far
+one_line {e} {p} {f} l h w n = record {
+  insns = w.count ∙ h.count;
+  successes = rw (w.won_len, h.won_len);
+  failures = rw (w.lost_len, h.lost_len);
+  writings = rw (w.x_writes, h.x_writes, bit (sets_x l)) (omega arith);
+  near = rw n;
+  lines = λ k. rw (w.count, w.insns, h.count, h.insns) (put_one e.insns.now (assemble l) (omega (arith, ap length w.insns, ap length h.insns, length-set e.insns.now e.count (assemble l), w.count, h.count)));
+  won = rw (w.won, h.won);
+  lost = rw (w.lost, h.lost);
+  facts = w.facts ∙ h.facts;
+  row = rw (w.insns, h.insns, length-set);
+  won_room = w.won_room ∙ h.won_room;
+  lost_room = w.lost_room ∙ h.lost_room;
+  link = w.link ∙ h.link;
+}
 
 -- ---- a block, and a block after it
 
-pub packs_append : (A B : Block) → packs (A ++ B) ≡ packs A ++ packs B
-packs_append [] B = refl
-packs_append (l ∷ A) B = ap (λ (x : List ℕ). packed l ∷ x) (packs_append A B)
+pub assembled_append : (A B : Block) → assembled (A ++ B) ≡ assembled A ++ assembled B
+assembled_append [] B = refl
+assembled_append (l ∷ A) B = ap (λ (x : List Insn). assemble l ∷ x) (assembled_append A B)
 
-pub packs_length : (B : Block) → length (packs B) ≡ length B
-packs_length [] = refl
-packs_length (l ∷ B) = ap suc (packs_length B)
+pub assembled_length : (B : Block) → length (assembled B) ≡ length B
+assembled_length [] = refl
+assembled_length (l ∷ B) = ap suc (assembled_length B)
 
-cond_append : (b : Bool) (p : ℕ) (x z : List ℕ) → cond b (p ∷ (x ++ z)) (x ++ z) ≡ cond b (p ∷ x) x ++ z
+cond_append : (b : Bool) (p : Patch) (x z : List Patch) → cond b (p ∷ (x ++ z)) (x ++ z) ≡ cond b (p ∷ x) x ++ z
 cond_append true p x z = refl
 cond_append false p x z = refl
 
-pending_append : (e : Side) (p : ℕ) (q : Exit) (x z : List ℕ) → pending e p q (x ++ z) ≡ pending e p q x ++ z
-pending_append e p (skip n) x z = refl
-pending_append e p (leave q) x z = cond_append (same e q) p x z
+pending_append : (s : Side) (p : Patch) (q : Exit) (x z : List Patch) → pending s p q (x ++ z) ≡ pending s p q x ++ z
+pending_append s p (Skip n) x z = refl
+pending_append s p (Leave q) x z = cond_append (same s q) p x z
 
-pub places_append : (e : Side) (p : ℕ) (A B : Block) → places e p (A ++ B) ≡ places e p A ++ places e (p + length A) B
-places_append e p [] B = rw add-zero
-places_append e p (l ∷ A) B =
-    let k : p + 1 + length A ≡ p + suc (length A) = omega arith in
-    rw (places_append e (p + 1) A B, k) (pending_append e p (exit_of l) (places e (p + 1) A) (places e (p + suc (length A)) B))
+pub patches_append : (s : Side) (i : ℕ) (A B : Block) → patches s i (A ++ B) ≡ patches s i A ++ patches s (i + length A) B
+patches_append s i [] B = rw add-zero
+patches_append s i (l ∷ A) B =
+    let k : i + 1 + length A ≡ i + suc (length A) = omega arith in
+    rw (patches_append s (i + 1) A B, k) (pending_append s (patch_of l i) (exit_of l) (patches s (i + 1) A) (patches s (i + suc (length A)) B))
 
-cond_length : (b : Bool) (p n : ℕ) (x : List ℕ) → length x ≤ n → length (cond b (p ∷ x) x) ≤ suc n
+cond_length : (b : Bool) (p : Patch) (n : ℕ) (x : List Patch) → length x ≤ n → length (cond b (p ∷ x) x) ≤ suc n
 cond_length true p n x h = omega arith
 cond_length false p n x h = omega arith
 
-pending_length : (e : Side) (p n : ℕ) (q : Exit) (x : List ℕ) → length x ≤ n → length (pending e p q x) ≤ suc n
-pending_length e p n (skip m) x h = omega arith
-pending_length e p n (leave q) x h = cond_length (same e q) p n x h
+pending_length : (s : Side) (p : Patch) (n : ℕ) (q : Exit) (x : List Patch) → length x ≤ n → length (pending s p q x) ≤ suc n
+pending_length s p n (Skip m) x h = omega arith
+pending_length s p n (Leave q) x h = cond_length (same s q) p n x h
 
-pub places_length : (e : Side) (p : ℕ) (B : Block) → length (places e p B) ≤ length B
-places_length e p [] = omega arith
-places_length e p (l ∷ B) = pending_length e p (length B) (exit_of l) (places e (p + 1) B) (places_length e (p + 1) B)
+pub patches_length : (s : Side) (i : ℕ) (B : Block) → length (patches s i B) ≤ length B
+patches_length s i [] = omega arith
+patches_length s i (l ∷ B) = pending_length s (patch_of l i) (length B) (exit_of l) (patches s (i + 1) B) (patches_length s (i + 1) B)
 
 pub writes_append : (A B : Block) → writes (A ++ B) ≡ writes A + writes B
 writes_append [] B = omega arith
@@ -100,144 +123,136 @@ unfolding far
 far_append [] B = refl
 far_append (l ∷ A) B = ap (λ (b : Bool). far_line l || b) (far_append A B) ∙ or_assoc (far_line l) (far A) (far B)
 
--- ---- one line
-
-module _ (I Y N : List ℕ) (s : Patches) (l : Line) (w x : ℕ) (p : w ≡ packed l) (q : x ≡ s.x_writes + writes (l ∷ []))
-    (f : far_line l ≡ false) where
-  near : far (l ∷ []) ≡ false
-  unfolding far
-  near = rw f
-
-  inside : s.insns + 1 ≤ length (set I s.insns w) → s.insns < length I
-  inside h = omega (arith, length-set I s.insns w)
-
-  -- with nothing pending
-  pub one : places success s.insns (l ∷ []) ≡ [] → places failure s.insns (l ∷ []) ≡ []
-      → Grew (l ∷ []) I Y N s (set I s.insns w) Y N (record { insns = s.insns + 1; success = s.success; failure = s.failure; x_writes = x })
-  one y n = record {
-    insns = refl;
-    successes = rw y (plus_none _);
-    failures = rw n (plus_none _);
-    writings = q;
-    near = near;
-    lines = λ h. put_one I (inside h) p;
-    won = rw y (put_none Y s.success);
-    lost = rw n (put_none N s.failure);
-  }
-
-  pub one_failure : s.failure < length N → places success s.insns (l ∷ []) ≡ [] → places failure s.insns (l ∷ []) ≡ s.insns ∷ []
-      → Grew (l ∷ []) I Y N s (set I s.insns w) Y (set N s.failure s.insns)
-      (record { insns = s.insns + 1; success = s.success; failure = s.failure + 1; x_writes = x })
-  one_failure g y n = record {
-    insns = refl;
-    successes = rw y (plus_none _);
-    failures = rw n refl;
-    writings = q;
-    near = near;
-    lines = λ h. put_one I (inside h) p;
-    won = rw y (put_none Y s.success);
-    lost = rw n (put_one N g refl);
-  }
-
-  pub one_success : s.success < length Y → places success s.insns (l ∷ []) ≡ s.insns ∷ [] → places failure s.insns (l ∷ []) ≡ []
-      → Grew (l ∷ []) I Y N s (set I s.insns w) (set Y s.success s.insns) N
-      (record { insns = s.insns + 1; success = s.success + 1; failure = s.failure; x_writes = x })
-  one_success g y n = record {
-    insns = refl;
-    successes = rw y refl;
-    failures = rw n (plus_none _);
-    writings = q;
-    near = near;
-    lines = λ h. put_one I (inside h) p;
-    won = rw y (put_one Y g refl);
-    lost = rw n (put_none N s.failure);
-  }
-
 -- ---- blocks
 
-pub none : (I Y N : List ℕ) (s : Patches) → Grew [] I Y N s I Y N s
+pub none : (e : Emitter) → Grows [] e e
 unfolding far
-none I Y N s = record {
-  insns = plus_none _;
-  successes = plus_none _;
-  failures = plus_none _;
-  writings = plus_none _;
+none e = record {
+  insns = omega arith;
+  successes = omega arith;
+  failures = omega arith;
+  writings = omega arith;
   near = refl;
-  lines = λ h. put_none I s.insns;
-  won = put_none Y s.success;
-  lost = put_none N s.failure;
+  lines = λ h. rw append-nil;
+  won = rw append-nil;
+  lost = rw append-nil;
+  facts = refl;
+  row = refl;
+  won_room = refl;
+  lost_room = refl;
+  link = refl;
 }
 
 -- lines that reach to a block's end reached to its start
-pub reached : {B : Block} {I Y N I' Y' N' : List ℕ} {s t : Patches} → Grew B I Y N s I' Y' N' t → t.insns ≤ length I' → s.insns ≤ length I
-reached {B} {I} {I' = I'} {s = s} {t} g h =
-    omega (arith, ap length (g.lines h), length-append (take s.insns I) (packs B), length-take s.insns I, length-take t.insns I', packs_length B, g.insns)
+pub reached : {c : Code} {e f : Emitter} → Grew c e f → f.count ≤ length f.insns.now → e.count ≤ length e.insns.now
+reached g h = omega (arith, g.insns, g.row)
 
-pub then : {A B : Block} {I Y N I₁ Y₁ N₁ I₂ Y₂ N₂ : List ℕ} {s s₁ s₂ : Patches}
-    → Grew A I Y N s I₁ Y₁ N₁ s₁ → Grew B I₁ Y₁ N₁ s₁ I₂ Y₂ N₂ s₂ → Grew (A ++ B) I Y N s I₂ Y₂ N₂ s₂
-then {A} {B} g h = record {
-  insns = rw length-append (omega arith);
-  successes = rw (places_append, length-append, ← g.insns) (omega arith);
-  failures = rw (places_append, length-append, ← g.insns) (omega arith);
-  writings = rw writes_append (omega arith);
-  near = rw (far_append A B, g.near) h.near;
-  lines = λ k. rw (h.lines k, g.lines (reached h k), packs_append, append_assoc);
-  won = rw (h.won, g.won, places_append, append_assoc, ← g.insns);
-  lost = rw (h.lost, g.lost, places_append, append_assoc, ← g.insns);
+pub then : {A : Block} {g : Facts} {c : Code} {e f k : Emitter} → Grew (code A g) e f → Grew c f k → Grew (code (A ++ c.block) c.facts) e k
+then {A} {g} {c} {e} p q = record {
+  insns = rw length-append (omega (arith, p.insns, q.insns));
+  successes = rw (patches_append, length-append, ← p.insns) (omega (arith, p.successes, q.successes));
+  failures = rw (patches_append, length-append, ← p.insns) (omega (arith, p.failures, q.failures));
+  writings = rw writes_append (omega (arith, p.writings, q.writings));
+  near = rw (far_append A c.block, p.near) q.near;
+  lines = λ h. rw (q.lines h, p.lines (reached q h), assembled_append, append_assoc);
+  won = rw (q.won, p.won, patches_append, append_assoc, ← p.insns);
+  lost = rw (q.lost, p.lost, patches_append, append_assoc, ← p.insns);
+  facts = q.facts;
+  row = q.row ∙ p.row;
+  won_room = q.won_room ∙ p.won_room;
+  lost_room = q.lost_room ∙ p.lost_room;
+  link = q.link ∙ p.link;
 }
 
--- the same numbers in another record
-pub regrew : {B : Block} {I Y N I' Y' N' : List ℕ} {s t : Patches} (u : Patches)
-    → u.insns ≡ t.insns → u.success ≡ t.success → u.failure ≡ t.failure → u.x_writes ≡ t.x_writes
-    → Grew B I Y N s I' Y' N' t → Grew B I Y N s I' Y' N' u
-regrew {I' = I'} {Y'} {N'} u a b c d g = record {
-  insns = a ∙ g.insns;
-  successes = b ∙ g.successes;
-  failures = c ∙ g.failures;
-  writings = d ∙ g.writings;
-  near = g.near;
-  lines = λ h. ap (λ (n : ℕ). take n I') a ∙ g.lines (omega (arith, a));
-  won = ap (λ (n : ℕ). take n Y') b ∙ g.won;
-  lost = ap (λ (n : ℕ). take n N') c ∙ g.lost;
+-- the same with a block that learns nothing
+pub grows_then : {A B : Block} {e f k : Emitter} → Grows A e f → Grows B f k → Grows (A ++ B) e k
+grows_then {A} {B} {e} {f} p q = let z = then p q in record {
+  insns = z.insns;
+  successes = z.successes;
+  failures = z.failures;
+  writings = z.writings;
+  near = z.near;
+  lines = z.lines;
+  won = z.won;
+  lost = z.lost;
+  facts = q.facts ∙ p.facts;
+  row = z.row;
+  won_room = z.won_room;
+  lost_room = z.lost_room;
+  link = z.link;
 }
-
-pub put : {B : Block} {I I' : List ℕ} {s t : Patches} → ((Y N : List ℕ) → Grew B I Y N s I' Y N t) → Put B I s I' t
-put h = let g = h [] [] in record { insns = g.insns; successes = g.successes; failures = g.failures; writings = g.writings; grew = h }
-
-pub put_failure : {B : Block} {I N I' N' : List ℕ} {s t : Patches} → ((Y : List ℕ) → Grew B I Y N s I' Y N' t) → PutFailure B I N s I' N' t
-put_failure h = let g = h [] in record { insns = g.insns; successes = g.successes; failures = g.failures; writings = g.writings; grew = h }
-
-pub put_success : {B : Block} {I Y I' Y' : List ℕ} {s t : Patches} → ((N : List ℕ) → Grew B I Y N s I' Y' N t) → PutSuccess B I Y s I' Y' t
-put_success h = let g = h [] in record { insns = g.insns; successes = g.successes; failures = g.failures; writings = g.writings; grew = h }
-
--- a block, and then one that may fail
-pub then_failure : {A B : Block} {I N I₁ I₂ N₂ : List ℕ} {s t u : Patches}
-    → Put A I s I₁ t → PutFailure B I₁ N t I₂ N₂ u → PutFailure (A ++ B) I N s I₂ N₂ u
-then_failure {N = N} g h = put_failure (λ Y. then (g.grew Y N) (h.grew Y))
 
 -- at most n more of everything
-pub record Sized (n : ℕ) (s u : Patches) : Type 0 where
-  pub insns : u.insns ≤ s.insns + n
-  pub successes : u.success ≤ s.success + n
-  pub failures : u.failure ≤ s.failure + n
-  pub writings : u.x_writes ≤ s.x_writes + n
-  pub insns₀ : s.insns ≤ u.insns
-  pub successes₀ : s.success ≤ u.success
-  pub failures₀ : s.failure ≤ u.failure
-  pub writings₀ : s.x_writes ≤ u.x_writes
+pub record Sized (n : ℕ) (e f : Emitter) : Type 0 where
+  pub insns : f.count ≤ e.count + n
+  pub successes : f.success.len ≤ e.success.len + n
+  pub failures : f.failure.len ≤ e.failure.len + n
+  pub writings : f.x_writes ≤ e.x_writes + n
+  pub insns₀ : e.count ≤ f.count
+  pub successes₀ : e.success.len ≤ f.success.len
+  pub failures₀ : e.failure.len ≤ f.failure.len
+  pub writings₀ : e.x_writes ≤ f.x_writes
+  pub won_room : length f.success.patches.now ≡ length e.success.patches.now
+  pub lost_room : length f.failure.patches.now ≡ length e.failure.patches.now
 
-pub sized : {B : Block} {I Y N I' Y' N' : List ℕ} {s u : Patches} (n : ℕ) → length B ≤ n → Grew B I Y N s I' Y' N' u → Sized n s u
-sized {B} {s = s} n h g =
-    let y = places_length success s.insns B in
-    let f = places_length failure s.insns B in
-    let x = writes_length B in
+pub sized : {c : Code} {e f : Emitter} (n : ℕ) → length c.block ≤ n → Grew c e f → Sized n e f
+sized {c} {e} n h g =
+    let y = patches_length Success e.count c.block in
+    let f = patches_length Failure e.count c.block in
+    let x = writes_length c.block in
     record {
-      insns = omega arith;
-      successes = omega arith;
-      failures = omega arith;
-      writings = omega arith;
-      insns₀ = omega arith;
-      successes₀ = omega arith;
-      failures₀ = omega arith;
-      writings₀ = omega arith;
+      insns = omega (arith, g.insns);
+      successes = omega (arith, g.successes);
+      failures = omega (arith, g.failures);
+      writings = omega (arith, g.writings);
+      insns₀ = omega (arith, g.insns);
+      successes₀ = omega (arith, g.successes);
+      failures₀ = omega (arith, g.failures);
+      writings₀ = omega (arith, g.writings);
+      won_room = g.won_room;
+      lost_room = g.lost_room;
     }
+
+-- what is left of the room
+pub space_left : (m : ℕ) {n k : ℕ} {e f : Emitter} → m + k ≤ n → Space n e → Sized m e f → Space k f
+space_left m h r z = record {
+  insns = omega (arith, r.insns, z.insns);
+  writings = omega (arith, r.writings, z.writings);
+  failures = omega (arith, r.failures, z.failures, z.lost_room);
+}
+
+pub room_left : (m : ℕ) {n k : ℕ} {e f : Emitter} → m + k ≤ n → Room n e → Sized m e f → Room k f
+room_left m h r z = record {
+  insns = omega (arith, r.insns, z.insns);
+  writings = omega (arith, r.writings, z.writings);
+  failures = omega (arith, r.failures, z.failures, z.lost_room);
+  successes = omega (arith, r.successes, z.successes, z.won_room);
+}
+
+pub sized_then : {m n : ℕ} (k : ℕ) {e f g : Emitter} → m + n ≤ k → Sized m e f → Sized n f g → Sized k e g
+sized_then k h y z = record {
+  insns = omega (arith, y.insns, z.insns);
+  successes = omega (arith, y.successes, z.successes);
+  failures = omega (arith, y.failures, z.failures);
+  writings = omega (arith, y.writings, z.writings);
+  insns₀ = omega (arith, y.insns₀, z.insns₀);
+  successes₀ = omega (arith, y.successes₀, z.successes₀);
+  failures₀ = omega (arith, y.failures₀, z.failures₀);
+  writings₀ = omega (arith, y.writings₀, z.writings₀);
+  won_room = z.won_room ∙ y.won_room;
+  lost_room = z.lost_room ∙ y.lost_room;
+}
+
+pub sized_none : (e : Emitter) → Sized 0 e e
+sized_none e = record {
+  insns = omega arith;
+  successes = omega arith;
+  failures = omega arith;
+  writings = omega arith;
+  insns₀ = omega arith;
+  successes₀ = omega arith;
+  failures₀ = omega arith;
+  writings₀ = omega arith;
+  won_room = refl;
+  lost_room = refl;
+}

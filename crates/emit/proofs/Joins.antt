@@ -1,57 +1,68 @@
 -- and, or, not: a block that was added, settled, and what follows it.
-use mathlib.Core.Path.{◌≡◌, refl, sym}
-use mathlib.Core.List.{List, ◌++◌}
-use mathlib.Core.Bool.{Bool, true, false, not}
-use Prim.Native.Nat.{ℕ}
-use native.Mathlib.Omega.{arith}
+use Rattle.std.proofs.Common.{◌≡◌, refl, sym, ap, ◌∙◌, Bool, true, false, not, cond, ◌++◌, arith, Ok, Err}
 use lib.Dec.{eqb}
 use borrow.Author.Tests.{eqb-true, eqb-false}
+use Rattle.error.specs.declared.Refusal.{Refusal}
 use Rattle.error.specs.declared.Refusal.TheVariants.{FarJump}
-use Rattle.error.specs.Answer.{Out, refused, done, ◌>>=◌}
+use Rattle.error.specs.Answer.{Out, ◌>>=◌}
 use Rattle.codegen.specs.declared.Facts.{Facts}
 use Rattle.codegen.specs.Block.{Block, far, resolved, writes_x}
 use Rattle.codegen.specs.Emit.{Code, code}
-use Rattle.emit.specs.declared.Patches.{Patches}
-use Rattle.emit.specs.declared.Emitted.{Emitted}
-use Rattle.emit.specs.declared.Emission.{Emission}
-use Rattle.emit.specs.declared.Emission.TheVariants.{Refused}
-use Rattle.emit.specs.Grown.{Grew, Reply, Ended}
+use Rattle.emit.specs.declared.Emitter.{Emitter}
+use Rattle.emit.specs.Grown.{Grew, Answers, Replies, coded}
 use Rattle.emit.proofs.Grow.{writes_none, writes_some}
-use Rattle.emit.proofs.Outcome.{Went, after, after_reply, ended_near, ended_far, ended_grew}
+use Rattle.emit.proofs.Outcome.{Went, after, after_reply}
 
--- ---- an answer whose block is settled by f
+-- ---- a block that was settled
 
-module _ {o : Out Code} {I Y N I₁ Y₁ N₁ : List ℕ} {s : Patches} {e : Emitted} (w : Went o I Y N s I₁ Y₁ N₁ e) (f : Block → Block) where
-  pub settled_near : far (f w.code.block) ≡ false → (k : Code → Block → Out Code) {I₂ Y₂ N₂ : List ℕ} {r : Emission}
-      → Reply (k w.code (f w.code.block)) I Y N s I₂ Y₂ N₂ r → Reply (o >>= λ b. resolved (f b.block) >>= k b) I Y N s I₂ Y₂ N₂ r
-  settled_near h k q = rw (w.eq, h) q
+module _ (b : Block) (g : Facts) (e f : Emitter) where
+  -- it is within 255, and was added
+  pub record Near : Type 0 where
+    pub near : far b ≡ false
+    pub grew : Grew (code b g) e f
 
-  pub settled_far : far (f w.code.block) ≡ true → (k : Code → Block → Out Code) {I₂ Y₂ N₂ : List ℕ}
-      → Reply (o >>= λ b. resolved (f b.block) >>= k b) I Y N s I₂ Y₂ N₂ (Refused FarJump)
-  settled_far h k = rw (w.eq, h) (record { is = refl })
+  near_by : (x : Bool) → far b ≡ x → (u : Unit {0}) → Answers (coded g (cond x (Err FarJump) (Ok b))) (λ c. Grew c e f) (Ok u) → Near
+  near_by true q u h = absurd h
+  near_by false q u h = record { near = q; grew = h }
 
-  module _ {I₂ Y₂ N₂ : List ℕ} {t : Patches} {near : Bool} (d : Ended (f w.code.block) I Y N s I₂ Y₂ N₂ t near) where
-    -- and what follows the settled block
-    pub settled_then : near ≡ true → (k : Code → Out Code) {I₃ Y₃ N₃ : List ℕ} {r : Emission}
-        → Reply (k w.code) I₂ Y₂ N₂ t I₃ Y₃ N₃ r → Reply (o >>= λ b. resolved (f b.block) >>= λ b'. after b' (k b)) I Y N s I₃ Y₃ N₃ r
-    settled_then n k {r = r} h = settled_near (ended_near d n) (λ b b'. after b' (k b)) (after_reply (k w.code) r (ended_grew d n) h)
+  far_by : (x : Bool) (q : Refusal) → Answers (coded g (cond x (Err FarJump) (Ok b))) (λ c. Grew c e f) (Err q) → cond x (Err FarJump) (Ok b) ≡ Err q
+  far_by true q h = ap Err (sym h)
+  far_by false q h = absurd h
 
-    pub settled_refused : near ≡ false → (k : Code → Block → Out Code) {I₃ Y₃ N₃ : List ℕ}
-        → Reply (o >>= λ b. resolved (f b.block) >>= k b) I Y N s I₃ Y₃ N₃ (Refused FarJump)
-    settled_refused n k = settled_far (ended_far d n) k
+  module _ {r : Out (Unit {0})} (d : Replies (coded g (resolved b)) e f r) where
+    pub settled_near : {u : Unit {0}} → r ≡ Ok u → Near
+    settled_near {u} p = near_by (far b) refl u (rw p at d.is)
+
+    pub settled_far : {q : Refusal} → r ≡ Err q → resolved b ≡ Err q
+    settled_far {q} p = far_by (far b) q (rw p at d.is)
+
+-- ---- an answer whose block is settled by s
+
+module _ {o : Out Code} {e f : Emitter} (w : Went o e f) (s : Block → Block) (g : Facts) {k : Emitter} {r : Out (Unit {0})}
+    (d : Replies (coded g (resolved (s w.code.block))) e k r) where
+  -- and what follows the settled block
+  pub settled_then : {u : Unit {0}} → r ≡ Ok u → (next : Code → Out Code) {j : Emitter} {q : Out (Unit {0})}
+      → Replies (next w.code) k j q → Replies (o >>= λ b. resolved (s b.block) >>= λ b'. after b' (next b)) e j q
+  settled_then p next {q = q} h =
+      let n = settled_near (s w.code.block) g e k d p in
+      rw (w.eq, n.near) (after_reply (next w.code) q n.grew h)
+
+  pub settled_refused : {q : Refusal} → r ≡ Err q → (next : Code → Block → Out Code) {j : Emitter}
+      → Replies (o >>= λ b. resolved (s b.block) >>= next b) e j (Err q)
+  settled_refused p next = rw (w.eq, settled_far (s w.code.block) g e k d p) (record { is = refl })
 
 -- ---- the facts after a block, changed
 
 pub after_facts : (B : Block) (m : Facts → Facts) (o : Out Code)
-    → after B (o >>= λ c. done (code c.block (m c.facts))) ≡ (o >>= λ c. done (code (B ++ c.block) (m c.facts)))
-after_facts B m (refused r) = refl
-after_facts B m (done c) = refl
+    → after B (o >>= λ c. Ok (code c.block (m c.facts))) ≡ (o >>= λ c. Ok (code (B ++ c.block) (m c.facts)))
+after_facts B m (Err r) = refl
+after_facts B m (Ok c) = refl
 
 -- ---- whether a block wrote X
 
-pub wrote : {B : Block} {I Y N I' Y' N' : List ℕ} {s t : Patches} → Grew B I Y N s I' Y' N' t → not (eqb t.x_writes s.x_writes) ≡ writes_x B
-wrote {B} {s = s} {t} g = by (eqb t.x_writes s.x_writes) refl
+pub wrote : {c : Code} {e f : Emitter} → Grew c e f → not (eqb f.x_writes e.x_writes) ≡ writes_x c.block
+wrote {c} {e} {f} g = by (eqb f.x_writes e.x_writes) refl
   where
-    by : (b : Bool) → eqb t.x_writes s.x_writes ≡ b → not b ≡ writes_x B
-    by true e = sym (writes_none B (omega (arith, g.writings, eqb-true t.x_writes s.x_writes e)))
-    by false e = sym (writes_some B (λ z. eqb-false t.x_writes s.x_writes e (omega (arith, g.writings))))
+    by : (b : Bool) → eqb f.x_writes e.x_writes ≡ b → not b ≡ writes_x c.block
+    by true h = sym (writes_none c.block (omega (arith, g.writings, eqb-true f.x_writes e.x_writes h)))
+    by false h = sym (writes_some c.block (λ z. eqb-false f.x_writes e.x_writes h (omega (arith, g.writings))))

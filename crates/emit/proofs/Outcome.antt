@@ -1,103 +1,90 @@
 -- Answers against what the definition gives: refused, or made; and one part after another.
-use mathlib.Core.Path.{◌≡◌, refl, sym, ap, ◌∙◌, subst}
-use mathlib.Core.List.{List, [], ◌++◌}
-use mathlib.Core.Bool.{Bool, true, false, not}
-use Prim.Native.Nat.{ℕ}
-use native.Mathlib.Omega.{arith}
+use Rattle.std.proofs.Common.{◌≡◌, refl, sym, ap, ◌∙◌, subst, [], ◌∷◌, ◌++◌, append_assoc, Ok, Err}
+use mathlib.Core.List.{append-nil}
 use Rattle.error.specs.declared.Refusal.{Refusal}
-use Rattle.error.specs.Answer.{Out, refused, done, ◌>>=◌}
+use Rattle.error.specs.Answer.{Out, ◌>>=◌}
 use Rattle.codegen.specs.declared.Facts.{Facts}
-use Rattle.codegen.specs.Block.{Block, far}
+use Rattle.codegen.specs.Block.{Block}
 use Rattle.codegen.specs.Emit.{Code, code}
-use Rattle.emit.specs.declared.Patches.{Patches}
-use Rattle.emit.specs.declared.Emitted.{Emitted}
-use Rattle.emit.specs.declared.Emission.{Emission}
-use Rattle.emit.specs.declared.Emission.TheVariants.{Done, Refused}
-use Rattle.emit.specs.Grown.{Grew, Made, Answers, Reply, Ended}
+use Rattle.emit.specs.declared.Emitter.{Emitter}
+use Rattle.emit.specs.Grown.{Grew, Grows, Answers, Replies}
 use Rattle.emit.proofs.Grow.{none, then}
 
 -- ---- an answer that was a refusal, and one that was not
 
-pub record Went (o : Out Code) (I Y N : List ℕ) (s : Patches) (I' Y' N' : List ℕ) (e : Emitted) : Type 0 where
+pub record Went (o : Out Code) (e f : Emitter) : Type 0 where
   pub code : Code
-  pub eq : o ≡ done code
-  pub made : Made code I Y N s I' Y' N' e
+  pub eq : o ≡ Ok code
+  pub grew : Grew code e f
 
-refused_of : (o : Out Code) (I Y N : List ℕ) (s : Patches) (I' Y' N' : List ℕ) (q : Refusal) → Answers o I Y N s I' Y' N' (Refused q) → o ≡ refused q
-refused_of (done c) I Y N s I' Y' N' q h = absurd h
-refused_of (refused r) I Y N s I' Y' N' q h = ap refused (sym h)
+refused_of : (o : Out Code) (e f : Emitter) (q : Refusal) → Answers o (λ c. Grew c e f) (Err q) → o ≡ Err q
+refused_of (Ok c) e f q h = absurd h
+refused_of (Err r) e f q h = ap Err (sym h)
 
-done_of : (o : Out Code) (I Y N : List ℕ) (s : Patches) (I' Y' N' : List ℕ) (e : Emitted) → Answers o I Y N s I' Y' N' (Done e) → Went o I Y N s I' Y' N' e
-done_of (done c) I Y N s I' Y' N' e h = record { code = c; eq = refl; made = h }
-done_of (refused r) I Y N s I' Y' N' e h = absurd h
+done_of : (o : Out Code) (e f : Emitter) (u : Unit {0}) → Answers o (λ c. Grew c e f) (Ok u) → Went o e f
+done_of (Ok c) e f u h = record { code = c; eq = refl; grew = h }
+done_of (Err r) e f u h = absurd h
 
-module _ {o : Out Code} {I Y N I' Y' N' : List ℕ} {s : Patches} {r : Emission} (h : Reply o I Y N s I' Y' N' r) where
-  pub reply_refused : {q : Refusal} → r ≡ Refused q → o ≡ refused q
-  reply_refused {q} e = refused_of o I Y N s I' Y' N' q (subst (λ x. Answers o I Y N s I' Y' N' x) e h.is)
+module _ {o : Out Code} {e f : Emitter} {r : Out (Unit {0})} (h : Replies o e f r) where
+  pub reply_refused : {q : Refusal} → r ≡ Err q → o ≡ Err q
+  reply_refused {q} p = refused_of o e f q (subst (λ x. Answers o (λ c. Grew c e f) x) p h.is)
 
-  pub reply_done : {e : Emitted} → r ≡ Done e → Went o I Y N s I' Y' N' e
-  reply_done {e} p = done_of o I Y N s I' Y' N' e (subst (λ x. Answers o I Y N s I' Y' N' x) p h.is)
+  pub reply_done : {u : Unit {0}} → r ≡ Ok u → Went o e f
+  reply_done {u} p = done_of o e f u (subst (λ x. Answers o (λ c. Grew c e f) x) p h.is)
 
 -- ---- answers made
 
-pub answer : {c : Code} {I Y N I' Y' N' : List ℕ} {s t : Patches} {g : Facts} → Grew c.block I Y N s I' Y' N' t → g ≡ c.facts
-    → Reply (done c) I Y N s I' Y' N' (Done (record { patches = t; facts = g }))
-answer h e = record { is = record { grew = h; facts = e } }
+pub answer : {c : Code} {e f : Emitter} → Grew c e f → Replies (Ok c) e f (Ok tt)
+answer h = record { is = h }
 
 -- nothing was added
-pub unchanged : (I Y N : List ℕ) (s : Patches) (g : Facts) → Reply (done (code [] g)) I Y N s I Y N (Done (record { patches = s; facts = g }))
-unchanged I Y N s g = record { is = record { grew = none I Y N s; facts = refl } }
+pub unchanged : (e : Emitter) → Replies (Ok (code [] e.facts)) e e (Ok tt)
+unchanged e = record { is = none e }
 
-pub turned_down : {q : Refusal} (I Y N I' Y' N' : List ℕ) (s : Patches) → Reply (refused q) I Y N s I' Y' N' (Refused q)
-turned_down I Y N I' Y' N' s = record { is = refl }
+pub turned_down : {q : Refusal} (e f : Emitter) → Replies (Err q) e f (Err q)
+turned_down e f = record { is = refl }
+
+-- other facts hold after a block
+pub knowing : {b : Block} {g h h' : Facts} {e f : Emitter} → h' ≡ h → Grew (code b g) e f → Grew (code b h) e (record f { facts = h' })
+knowing q p = record {
+  insns = p.insns;
+  successes = p.successes;
+  failures = p.failures;
+  writings = p.writings;
+  near = p.near;
+  lines = p.lines;
+  won = p.won;
+  lost = p.lost;
+  facts = q;
+  row = p.row;
+  won_room = p.won_room;
+  lost_room = p.lost_room;
+  link = p.link;
+}
 
 -- ---- one part after another
 
 -- an answer that follows a block
 abbrev pub after : Block → Out Code → Out Code
-after b o = o >>= λ c. done (code (b ++ c.block) c.facts)
+after b o = o >>= λ c. Ok (code (b ++ c.block) c.facts)
 
-pub after_reply : {A : Block} {I Y N I₁ Y₁ N₁ I₂ Y₂ N₂ : List ℕ} {s u : Patches} (o : Out Code) (r : Emission)
-    → Grew A I Y N s I₁ Y₁ N₁ u → Reply o I₁ Y₁ N₁ u I₂ Y₂ N₂ r → Reply (after A o) I Y N s I₂ Y₂ N₂ r
-after_reply (done c) (Done e) g h = record { is = record { grew = then g h.is.grew; facts = h.is.facts } }
-after_reply (done c) (Refused q) g h = record { is = h.is }
-after_reply (refused p) (Done e) g h = record { is = h.is }
-after_reply (refused p) (Refused q) g h = record { is = h.is }
+pub after_reply : {A : Block} {g : Facts} {e f k : Emitter} (o : Out Code) (r : Out (Unit {0}))
+    → Grew (code A g) e f → Replies o f k r → Replies (after A o) e k r
+after_reply (Ok c) (Ok u) g h = record { is = then g h.is }
+after_reply (Ok c) (Err q) g h = record { is = h.is }
+after_reply (Err p) (Ok u) g h = record { is = h.is }
+after_reply (Err p) (Err q) g h = record { is = h.is }
 
-module _ {o : Out Code} {I Y N I₁ Y₁ N₁ : List ℕ} {s : Patches} where
-  pub bind_refused : {r : Emission} {q : Refusal} → Reply o I Y N s I₁ Y₁ N₁ r → r ≡ Refused q → (k : Code → Out Code) {I₂ Y₂ N₂ : List ℕ}
-      → Reply (o >>= k) I Y N s I₂ Y₂ N₂ (Refused q)
-  bind_refused h e k = rw (reply_refused h e) (record { is = refl })
+module _ {o : Out Code} {e f : Emitter} where
+  pub bind_refused : {r : Out (Unit {0})} {q : Refusal} → Replies o e f r → r ≡ Err q → (k : Code → Out Code) {j : Emitter}
+      → Replies (o >>= k) e j (Err q)
+  bind_refused h p k = rw (reply_refused h p) (record { is = refl })
 
   -- a known block follows
-  pub bind_grew : {e : Emitted} {t : Patches} {B : Block} {I₂ Y₂ N₂ : List ℕ} → Went o I Y N s I₁ Y₁ N₁ e → Grew B I₁ Y₁ N₁ e.patches I₂ Y₂ N₂ t
-      → Reply (o >>= λ c. done (code (c.block ++ B) c.facts)) I Y N s I₂ Y₂ N₂ (Done (record { patches = t; facts = e.facts }))
-  bind_grew w b = rw w.eq (record { is = record { grew = then w.made.grew b; facts = w.made.facts } })
+  pub bind_grew : {k : Emitter} {b : Block} → Went o e f → Grows b f k → Replies (o >>= λ c. Ok (code (c.block ++ b) c.facts)) e k (Ok tt)
+  bind_grew w g = let z = then w.grew g in rw (w.eq, ← w.grew.facts) (record { is = z })
 
   -- an answer from the facts after the first part follows
-  pub bind_reply : {e : Emitted} → Went o I Y N s I₁ Y₁ N₁ e → (k : Facts → Out Code) {I₂ Y₂ N₂ : List ℕ} {r : Emission}
-      → Reply (k e.facts) I₁ Y₁ N₁ e.patches I₂ Y₂ N₂ r → Reply (o >>= λ c. after c.block (k c.facts)) I Y N s I₂ Y₂ N₂ r
-  bind_reply {e} w k {r = r} h = rw (w.eq, ← w.made.facts) (after_reply (k e.facts) r w.made.grew h)
-
--- ---- settled blocks
-
-never : {A : Type 0} → true ≡ false → A
-never e = let z : ◌≡◌ {A = ℕ} 0 1 = cc in absurd (omega arith)
-
-pub far_not : (b r : Bool) → r ≡ not b → r ≡ true → b ≡ false
-far_not true r e p = never (sym p ∙ e)
-far_not false r e p = refl
-
-pub far_is : (b r : Bool) → r ≡ not b → r ≡ false → b ≡ true
-far_is true r e p = refl
-far_is false r e p = never (sym e ∙ p)
-
-module _ {C : Block} {I Y N I' Y' N' : List ℕ} {s t : Patches} {r : Bool} (h : Ended C I Y N s I' Y' N' t r) where
-  pub ended_near : r ≡ true → far C ≡ false
-  ended_near e = far_not (far C) r h.near e
-
-  pub ended_far : r ≡ false → far C ≡ true
-  ended_far e = far_is (far C) r h.near e
-
-  pub ended_grew : r ≡ true → Grew C I Y N s I' Y' N' t
-  ended_grew e = h.grew (ended_near e)
+  pub bind_reply : Went o e f → (k : Facts → Out Code) {j : Emitter} {r : Out (Unit {0})}
+      → Replies (k f.facts) f j r → Replies (o >>= λ c. after c.block (k c.facts)) e j r
+  bind_reply w k {r = r} h = rw (w.eq, ← w.grew.facts) (after_reply (k f.facts) r w.grew h)

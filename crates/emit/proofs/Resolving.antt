@@ -1,41 +1,40 @@
--- One pending place of a stack after another.
-use mathlib.Core.Path.{◌≡◌, sym, ap, ◌∙◌, subst}
-use mathlib.Core.List.{List, [], ◌∷◌}
-use Prim.Native.Nat.{ℕ, ◌+◌, ◌-◌, ◌<◌, ◌≤◌}
-use native.Mathlib.Omega.{arith}
-use native.Mathlib.Numerals.{add-one}
+-- One pending jump of a row after another.
+use Rattle.std.proofs.Common.{◌≡◌, ℕ, suc, ◌+◌, ◌-◌, ◌<◌, ◌≤◌, List, [], ◌∷◌, length, take, drop, get_or, ap, sym, ◌∙◌, subst, add-one, drop-cons, Ok, Err, arith}
+use Rattle.std.proofs.lemmas.List.{drop_all, drop-take}
 use borrow.Author.Tests.{lt-ltb, le-ltb}
-use lib.ListN.{length, get_or, set}
-use lib.Seq.{slice, slice-cons, slice_empty}
-use Rattle.emit.specs.Lines.{with_distance, resolve, patched, too_far, Below}
+use Rattle.error.specs.declared.Refusal.TheVariants.{FarJump}
+use Rattle.bpf.specs.declared.Insn.{Insn}
+use Rattle.emit.specs.declared.Patch.{Patch}
+use Rattle.emit.specs.Lines.{place_of, resolved, resolve, Below}
+use Rattle.emit.specs.Grown.{Settles}
 
-pub far_cons : (p : ℕ) (ps : List ℕ) (T : ℕ) (I : List ℕ) → 255 < T - p - 1 → resolve (p ∷ ps) T I ≡ too_far
+pub far_cons : (q : Patch) (qs : List Patch) (T : ℕ) (I : List Insn) → 255 < T - place_of q - 1 → resolve (q ∷ qs) T I ≡ Err FarJump
 unfolding resolve
-far_cons p ps T I h = rw (lt-ltb 255 (T - p - 1) h)
+far_cons q qs T I h = rw (lt-ltb 255 (T - place_of q - 1) h)
 
-pub near_cons : (p : ℕ) (ps : List ℕ) (T : ℕ) (I : List ℕ) → T - p - 1 ≤ 255
-    → resolve (p ∷ ps) T I ≡ resolve ps T (set I p (with_distance (get_or I p 0) (T - p - 1)))
+pub near_cons : (q : Patch) (qs : List Patch) (T : ℕ) (I : List Insn) → T - place_of q - 1 ≤ 255
+    → resolve (q ∷ qs) T I ≡ resolve qs T (resolved q (T - place_of q - 1) I)
 unfolding resolve
-near_cons p ps T I h = rw (le-ltb 255 (T - p - 1) h)
+near_cons q qs T I h = rw (le-ltb 255 (T - place_of q - 1) h)
 
-module _ (S : List ℕ) (i t : ℕ) (h : i < t) (k : t ≤ length S) where
-  uncons : slice i t S ≡ get_or S i 0 ∷ slice (i + 1) t S
-  uncons = rw add-one (slice-cons i t S 0 h k)
+module _ (S : List Patch) (i : ℕ) (d : Patch) (h : i < length S) where
+  uncons : drop i S ≡ get_or S i d ∷ drop (i + 1) S
+  uncons = rw add-one (drop-cons S i d h)
 
-  pub below_step : (T : ℕ) → Below T (slice i t S) → (get_or S i 0 < T) × Below T (slice (i + 1) t S)
-  below_step T b = subst (Below T) uncons b
+  pub below_step : (T : ℕ) → Below T (drop i S) → Below T (drop (i + 1) S)
+  below_step T b = (subst (Below T) uncons b).1
 
-  pub resolve_far : (T : ℕ) (I : List ℕ) → 255 < T - get_or S i 0 - 1 → resolve (slice i t S) T I ≡ too_far
-  resolve_far T I far = ap (λ (x : List ℕ). resolve x T I) uncons ∙ far_cons (get_or S i 0) (slice (i + 1) t S) T I far
+  pub resolve_far : (T : ℕ) (I : List Insn) → 255 < T - place_of (get_or S i d) - 1 → resolve (drop i S) T I ≡ Err FarJump
+  resolve_far T I far = ap (λ (x : List Patch). resolve x T I) uncons ∙ far_cons (get_or S i d) (drop (i + 1) S) T I far
 
-  pub resolve_step : (T : ℕ) (I : List ℕ) → T - get_or S i 0 - 1 ≤ 255
-      → resolve (slice (i + 1) t S) T (set I (get_or S i 0) (with_distance (get_or I (get_or S i 0) 0) (T - get_or S i 0 - 1))) ≡ resolve (slice i t S) T I
-  resolve_step T I near = sym (ap (λ (x : List ℕ). resolve x T I) uncons ∙ near_cons (get_or S i 0) (slice (i + 1) t S) T I near)
+  pub resolve_step : (T : ℕ) (I : List Insn) → T - place_of (get_or S i d) - 1 ≤ 255
+      → resolve (drop (i + 1) S) T (resolved (get_or S i d) (T - place_of (get_or S i d) - 1) I) ≡ resolve (drop i S) T I
+  resolve_step T I near = sym (ap (λ (x : List Patch). resolve x T I) uncons ∙ near_cons (get_or S i d) (drop (i + 1) S) T I near)
 
-pub resolve_end : (S : List ℕ) (i t T : ℕ) (I : List ℕ) → i ≡ t → resolve (slice i t S) T I ≡ patched I
+pub resolve_end : (S : List Patch) (i T : ℕ) (I : List Insn) → length S ≤ i → resolve (drop i S) T I ≡ Ok I
 unfolding resolve
-resolve_end S i t T I e = rw (e, slice_empty t S)
+resolve_end S i T I h = rw (drop_all i S h)
 
-pub below_more : (T U : ℕ) (ps : List ℕ) → T ≤ U → Below T ps → Below U ps
-below_more T U [] h b = tt
-below_more T U (p ∷ ps) h b = (omega (arith, b.0), below_more T U ps h b.1)
+-- those of a stack since it was m long, as a part of its row
+pub between : (m n : ℕ) (S : List Patch) → m ≤ n → take (n - m) (drop m S) ≡ drop m (take n S)
+between m n S h = let e : m + (n - m) ≡ n = omega arith in sym (ap (λ (k : ℕ). drop m (take k S)) (sym e) ∙ drop-take m (n - m) S)

@@ -1,100 +1,177 @@
--- What the functions of the generator leave in the lent slices: I the lines, Y the stack of pending successes, N that of pending failures.
--- Lines are written as far as I reaches: who asks for the count alone lends none.
-use Rattle.std.specs.Prelude.{ℕ, ◌+◌, ◌≤◌, ◌≡◌, List, ◌++◌, Bool, true, false, not, length, take}
-use Rattle.error.specs.Answer.{Out, refused, done}
-use Rattle.codegen.specs.Block.{Block, success, failure, far, otherwise}
-use Rattle.codegen.specs.Emit.{Code}
-use Rattle.emit.specs.declared.Patches.{Patches}
-use Rattle.emit.specs.declared.Emitted.{Emitted}
-use Rattle.emit.specs.declared.Emission.{Emission}
-use Rattle.emit.specs.declared.Emission.TheVariants.{Done, Refused}
-use Rattle.emit.specs.Lines.{packs, places, writes, Patched, patched, too_far}
+-- What the functions of the generator leave in an emitter.
+use Rattle.std.specs.Prelude.{ℕ, ◌+◌, ◌<◌, ◌≤◌, ◌≡◌, List, [], ◌∷◌, ◌++◌, false, ◌^◌, length, take, drop, set, Ok, Err, IfOk}
+use Rattle.error.specs.Answer.{Out, ◌>>=◌}
+use Rattle.bpf.specs.declared.Insn.{Insn}
+use Rattle.ast.specs.declared.LinkType.{LinkType}
+use Rattle.codegen.specs.declared.Side.{Side}
+use Rattle.codegen.specs.declared.Side.TheVariants.{Success, Failure}
+use Rattle.codegen.specs.declared.Exit.{Exit}
+use Rattle.codegen.specs.declared.Exit.TheVariants.{Skip, Leave}
+use Rattle.codegen.specs.declared.Line.{Line}
+use Rattle.codegen.specs.declared.Facts.{Facts}
+use Rattle.codegen.specs.Block.{Block, far, resolved, otherwise}
+use Rattle.codegen.specs.Emit.{Code, code}
+use Rattle.emit.specs.declared.Patch.{Patch}
+use Rattle.emit.specs.declared.Stack.{Stack}
+use Rattle.emit.specs.declared.Emitter.{Emitter}
+use Rattle.emit.specs.Lines.{assembled, exit_of, pending, patches, waiting, writes, resolve, Below}
 
--- places for n more lines, which 16 bits hold, and room for their pending jumps
-pub record Room (n : ℕ) (Y N : List ℕ) (s : Patches) : Type 0 where
-  pub insns : s.insns + n ≤ 65536
-  pub successes : s.success + n ≤ length Y
-  pub failures : s.failure + n ≤ length N
-  pub writings : s.x_writes + n ≤ 65536
+-- places for n more lines, which 16 bits hold, and X written no more often than there are lines
+pub record Place (n : ℕ) (e : Emitter) : Type 0 where
+  pub insns : e.count + n ≤ 65536
+  pub writings : e.x_writes + n ≤ 65536
 
--- the same with one stack, filled up to `top`
-pub record Space (n : ℕ) (S : List ℕ) (s : Patches) (top : ℕ) : Type 0 where
-  pub insns : s.insns + n ≤ 65536
-  pub stack : top + n ≤ length S
-  pub writings : s.x_writes + n ≤ 65536
+-- and room for their pending failures
+pub record Space (n : ℕ) (e : Emitter) : Type 0 where
+  pub insns : e.count + n ≤ 65536
+  pub writings : e.x_writes + n ≤ 65536
+  pub failures : e.failure.len + n ≤ length e.failure.patches.now
 
--- the same of lines that jump nowhere
-pub record Place (n : ℕ) (s : Patches) : Type 0 where
-  pub insns : s.insns + n ≤ 65536
-  pub writings : s.x_writes + n ≤ 65536
+-- and for their pending successes
+pub record Room (n : ℕ) (e : Emitter) : Type 0 where
+  pub insns : e.count + n ≤ 65536
+  pub writings : e.x_writes + n ≤ 65536
+  pub failures : e.failure.len + n ≤ length e.failure.patches.now
+  pub successes : e.success.len + n ≤ length e.success.patches.now
 
--- the block B was added: its lines, where I reaches to its end, and its pending jumps
-pub record Grew (B : Block) (I Y N : List ℕ) (s : Patches) (I' Y' N' : List ℕ) (t : Patches) : Type 0 where
-  pub insns : t.insns ≡ s.insns + length B
-  pub successes : t.success ≡ s.success + length (places success s.insns B)
-  pub failures : t.failure ≡ s.failure + length (places failure s.insns B)
-  pub writings : t.x_writes ≡ s.x_writes + writes B
-  pub near : far B ≡ false
-  pub lines : t.insns ≤ length I' → take t.insns I' ≡ take s.insns I ++ packs B
-  pub won : take t.success Y' ≡ take s.success Y ++ places success s.insns B
-  pub lost : take t.failure N' ≡ take s.failure N ++ places failure s.insns B
+-- the stack of an exit's side has a free place
+abbrev pub Free : Exit → Emitter → Type 0
+Free (Skip d) e = Unit {0}
+Free (Leave Success) e = e.success.len < length e.success.patches.now
+Free (Leave Failure) e = e.failure.len < length e.failure.patches.now
 
--- the same of functions that are lent fewer slices, with the numbers said once more
-pub record Put (B : Block) (I : List ℕ) (s : Patches) (I' : List ℕ) (t : Patches) : Type 0 where
-  pub insns : t.insns ≡ s.insns + length B
-  pub successes : t.success ≡ s.success + length (places success s.insns B)
-  pub failures : t.failure ≡ s.failure + length (places failure s.insns B)
-  pub writings : t.x_writes ≡ s.x_writes + writes B
-  pub grew : (Y N : List ℕ) → Grew B I Y N s I' Y N t
+-- room for one line
+pub record Fits (l : Line) (e : Emitter) : Type 0 where
+  pub insns : e.count + 1 ≤ 65536
+  pub writings : e.x_writes + 1 ≤ 65536
+  pub free : Free (exit_of l) e
 
-pub record PutFailure (B : Block) (I N : List ℕ) (s : Patches) (I' N' : List ℕ) (t : Patches) : Type 0 where
-  pub insns : t.insns ≡ s.insns + length B
-  pub successes : t.success ≡ s.success + length (places success s.insns B)
-  pub failures : t.failure ≡ s.failure + length (places failure s.insns B)
-  pub writings : t.x_writes ≡ s.x_writes + writes B
-  pub grew : (Y : List ℕ) → Grew B I Y N s I' Y N' t
+-- nothing was added to what is lent
+pub record Empty (L : LinkType) (g : Facts) (I : List Insn) (Y N : List Patch) (e : Emitter) : Type 0 where
+  pub insns : e.insns.now ≡ I
+  pub count : e.count ≡ 0
+  pub success : e.success.len ≡ 0
+  pub won : e.success.patches.now ≡ Y
+  pub failure : e.failure.len ≡ 0
+  pub lost : e.failure.patches.now ≡ N
+  pub x_writes : e.x_writes ≡ 0
+  pub facts : e.facts ≡ g
+  pub link : e.link ≡ L
 
-pub record PutSuccess (B : Block) (I Y : List ℕ) (s : Patches) (I' Y' : List ℕ) (t : Patches) : Type 0 where
-  pub insns : t.insns ≡ s.insns + length B
-  pub successes : t.success ≡ s.success + length (places success s.insns B)
-  pub failures : t.failure ≡ s.failure + length (places failure s.insns B)
-  pub writings : t.x_writes ≡ s.x_writes + writes B
-  pub grew : (N : List ℕ) → Grew B I Y N s I' Y' N t
+-- the two stacks change places
+pub record Turned (e f : Emitter) : Type 0 where
+  pub success : f.success.len ≡ e.failure.len
+  pub won : f.success.patches.now ≡ e.failure.patches.now
+  pub failure : f.failure.len ≡ e.success.len
+  pub lost : f.failure.patches.now ≡ e.success.patches.now
+  pub insns : f.insns.now ≡ e.insns.now
+  pub count : f.count ≡ e.count
+  pub x_writes : f.x_writes ≡ e.x_writes
+  pub facts : f.facts ≡ e.facts
+  pub link : f.link ≡ e.link
 
--- a block and the facts after it
-pub record Made (c : Code) (I Y N : List ℕ) (s : Patches) (I' Y' N' : List ℕ) (e : Emitted) : Type 0 where
-  pub grew : Grew c.block I Y N s I' Y' N' e.patches
-  pub facts : e.facts ≡ c.facts
+-- ---- one line
 
--- the same of a function that is not lent the stack of pending successes
-pub record MadeFailure (c : Code) (I N : List ℕ) (s : Patches) (I' N' : List ℕ) (e : Emitted) : Type 0 where
-  pub made : (Y : List ℕ) → Made c I Y N s I' Y N' e
+-- an instruction stands at the end, if the lent row reaches so far
+pub record Put (x : Insn) (e f : Emitter) : Type 0 where
+  pub insns : f.insns.now ≡ set e.insns.now e.count x
+  pub count : f.count ≡ e.count + 1
+  pub won : waiting f.success ≡ waiting e.success
+  pub won_len : f.success.len ≡ e.success.len
+  pub won_room : length f.success.patches.now ≡ length e.success.patches.now
+  pub lost : waiting f.failure ≡ waiting e.failure
+  pub lost_len : f.failure.len ≡ e.failure.len
+  pub lost_room : length f.failure.patches.now ≡ length e.failure.patches.now
+  pub x_writes : f.x_writes ≡ e.x_writes
+  pub facts : f.facts ≡ e.facts
+  pub link : f.link ≡ e.link
+
+-- a jump waits, if its exit is still open
+pub record Waits (x : Exit) (q : Patch) (e f : Emitter) : Type 0 where
+  pub insns : f.insns.now ≡ e.insns.now
+  pub count : f.count ≡ e.count
+  pub won : waiting f.success ≡ waiting e.success ++ pending Success q x []
+  pub won_len : f.success.len ≡ e.success.len + length (pending Success q x [])
+  pub won_room : length f.success.patches.now ≡ length e.success.patches.now
+  pub lost : waiting f.failure ≡ waiting e.failure ++ pending Failure q x []
+  pub lost_len : f.failure.len ≡ e.failure.len + length (pending Failure q x [])
+  pub lost_room : length f.failure.patches.now ≡ length e.failure.patches.now
+  pub x_writes : f.x_writes ≡ e.x_writes
+  pub facts : f.facts ≡ e.facts
+  pub link : f.link ≡ e.link
+
+-- ---- blocks
+
+-- a block was added, and its facts hold: its instructions stand where the lent row reaches to its end, and its open jumps wait
+pub record Grew (c : Code) (e f : Emitter) : Type 0 where
+  pub insns : f.count ≡ e.count + length c.block
+  pub successes : f.success.len ≡ e.success.len + length (patches Success e.count c.block)
+  pub failures : f.failure.len ≡ e.failure.len + length (patches Failure e.count c.block)
+  pub writings : f.x_writes ≡ e.x_writes + writes c.block
+  pub near : far c.block ≡ false
+  pub lines : f.count ≤ length f.insns.now → take f.count f.insns.now ≡ take e.count e.insns.now ++ assembled c.block
+  pub won : waiting f.success ≡ waiting e.success ++ patches Success e.count c.block
+  pub lost : waiting f.failure ≡ waiting e.failure ++ patches Failure e.count c.block
+  pub facts : f.facts ≡ c.facts
+  -- what is lent stays as long, and the link stays
+  pub row : length f.insns.now ≡ length e.insns.now
+  pub won_room : length f.success.patches.now ≡ length e.success.patches.now
+  pub lost_room : length f.failure.patches.now ≡ length e.failure.patches.now
+  pub link : f.link ≡ e.link
+
+-- a block that learns nothing
+abbrev pub Grows : Block → Emitter → Emitter → Type 0
+Grows b e f = Grew (code b e.facts) e f
 
 -- an answer against what the definition gives
-abbrev pub Answers : Out Code → List ℕ → List ℕ → List ℕ → Patches → List ℕ → List ℕ → List ℕ → Emission → Type 0
-Answers (done c) I Y N s I' Y' N' (Done e) = Made c I Y N s I' Y' N' e
-Answers (done c) I Y N s I' Y' N' (Refused r) = ⊥
-Answers (refused q) I Y N s I' Y' N' (Done e) = ⊥
-Answers (refused q) I Y N s I' Y' N' (Refused r) = r ≡ q
+abbrev pub Answers : {A : Type 0} → Out A → (A → Type 0) → Out (Unit {0}) → Type 0
+Answers (Ok a) P (Ok u) = P a
+Answers (Ok a) P (Err q) = ⊥
+Answers (Err r) P (Ok u) = ⊥
+Answers (Err r) P (Err q) = q ≡ r
 
-pub record Reply (o : Out Code) (I Y N : List ℕ) (s : Patches) (I' Y' N' : List ℕ) (r : Emission) : Type 0 where
-  pub is : Answers o I Y N s I' Y' N' r
+pub record Replies (o : Out Code) (e f : Emitter) (r : Out (Unit {0})) : Type 0 where
+  pub is : Answers o (λ c. Grew c e f) r
 
-pub record ReplyFailure (o : Out Code) (I N : List ℕ) (s : Patches) (I' N' : List ℕ) (r : Emission) : Type 0 where
-  pub reply : (Y : List ℕ) → Reply o I Y N s I' Y N' r
+-- of a row whose pending jumps are resolved
+pub record Settles (o : Out (List Insn)) (xs : List Insn) (r : Out (Unit {0})) : Type 0 where
+  pub is : Answers o (λ ys. xs ≡ ys) r
 
--- what resolving leaves: true and the patched lines, or false
-abbrev pub Resolves : Patched → List ℕ → Bool → Type 0
-Resolves (patched J) I r = (r ≡ true) × (I ≡ J)
-Resolves too_far I r = r ≡ false
+-- ---- settled blocks
 
--- what settling makes of the block B: it is C, or too far
-pub record Ended (C : Block) (I Y N : List ℕ) (s : Patches) (I' Y' N' : List ℕ) (t : Patches) (r : Bool) : Type 0 where
-  pub near : r ≡ not (far C)
-  pub grew : far C ≡ false → Grew C I Y N s I' Y' N' t
+abbrev pub stack_of : Side → Emitter → Stack
+stack_of Success e = e.success
+stack_of Failure e = e.failure
+
+-- the stack of a side was m long, and its pending jumps since then stand before what they go to
+pub record Open (s : Side) (m over : ℕ) (e : Emitter) : Type 0 where
+  pub most : e.count + over < 2 ^ 64
+  pub mark : m ≤ (stack_of s e).len
+  pub room : (stack_of s e).len ≤ length (stack_of s e).patches.now
+  pub below : Below (e.count + over) (drop m (waiting (stack_of s e)))
+
+-- the stack of a side is cut, unless it was refused, and the other stays
+abbrev pub Cut : Side → ℕ → Emitter → Emitter → Type 0
+Cut Success mark e f = (f.success.len ≡ mark) × (f.failure.len ≡ e.failure.len)
+Cut Failure mark e f = (f.success.len ≡ e.success.len) × (f.failure.len ≡ mark)
+
+-- what `settle` leaves: the row resolved, or refused
+pub record Settled (s : Side) (mark over : ℕ) (e f : Emitter) (r : Out (Unit {0})) : Type 0 where
+  pub row : Settles (resolve (drop mark (waiting (stack_of s e))) (e.count + over) e.insns.now) f.insns.now r
+  pub long : length f.insns.now ≡ length e.insns.now
+  pub cut : IfOk r (λ u. Cut s mark e f)
+  pub count : f.count ≡ e.count
+  pub won : f.success.patches.now ≡ e.success.patches.now
+  pub lost : f.failure.patches.now ≡ e.failure.patches.now
+  pub x_writes : f.x_writes ≡ e.x_writes
+  pub facts : f.facts ≡ e.facts
+  pub link : f.link ≡ e.link
+
+-- a block that was settled, or refused: its code with these facts
+abbrev pub coded : Facts → Out Block → Out Code
+coded g o = o >>= λ b. Ok (code b g)
 
 -- `otherwise` of a block that was added since the stack of failures was `mark` long
-pub record Otherwise (mark : ℕ) (I Y N : List ℕ) (s : Patches) (I' Y' N' : List ℕ) (t : Patches) (r : Bool) : Type 0 where
-  pub ended : (B : Block) (I₀ Y₀ N₀ : List ℕ) (s₀ : Patches) → Grew B I₀ Y₀ N₀ s₀ I Y N s → s₀.failure ≡ mark
-      → s₀.failure ≤ length N₀
-      → Ended (otherwise B) I₀ Y₀ N₀ s₀ I' Y' N' t r
+pub record Otherwise (mark : ℕ) (e f : Emitter) (r : Out (Unit {0})) : Type 0 where
+  pub of : (b : Block) (d : Emitter) → Grew (code b e.facts) d e → d.failure.len ≡ mark → d.failure.len ≤ length d.failure.patches.now
+      → Replies (coded e.facts (resolved (otherwise b))) d f r

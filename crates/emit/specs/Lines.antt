@@ -1,81 +1,88 @@
--- Blocks as the code holds them: each line one number, and two stacks with the places of the lines whose jumps are pending.
-use Rattle.std.specs.Prelude.{ℕ, ◌+◌, ◌-◌, ◌*◌, ◌/◌, ◌%◌, ◌<◌, List, [], ◌∷◌, cond, get_or, set, eqb, ltb}
-use Rattle.codegen.specs.Block.{byte, half, word, Op, ld_abs, ldh_ind, ldx_msh, ldx_imm, and_k, Test, jeq, jgt, jge, jset, Side, Exit, skip, leave, Slot, jt, jf, Line, op, test, ja, Block, same, distance, sets_x, op_insn, test_code}
+-- Blocks as the code holds them: their instructions in a row, and two stacks of pending jumps.
+use Rattle.std.specs.Prelude.{ℕ, ◌+◌, ◌-◌, ◌<◌, List, [], ◌∷◌, Bool, cond, map, take, get_or, set, ltb, Ok, Err}
+use Rattle.error.specs.declared.Refusal.TheVariants.{FarJump}
+use Rattle.error.specs.Answer.{Out}
+use Rattle.bpf.specs.declared.Insn.{Insn}
+use Rattle.bpf.specs.Program.{insn}
+use Rattle.codegen.specs.declared.Side.{Side}
+use Rattle.codegen.specs.declared.Exit.{Exit}
+use Rattle.codegen.specs.declared.Exit.TheVariants.{Skip, Leave}
+use Rattle.codegen.specs.declared.Slot.{Slot}
+use Rattle.codegen.specs.declared.Slot.TheVariants.{Jt, Jf}
+use Rattle.codegen.specs.declared.Line.{Line}
+use Rattle.codegen.specs.declared.Line.TheVariants.{Plain, Branch, Jump}
+use Rattle.codegen.specs.Block.{Block, same, sets_x, assemble}
+use Rattle.emit.specs.declared.Patch.{Patch}
+use Rattle.emit.specs.declared.Patch.TheVariants as P
+use Rattle.emit.specs.declared.Stack.{Stack}
 
 -- ---- lines
 
--- a line as one number: 16-bit code, 8-bit distance, the field that the distance goes to, 32-bit k
-abbrev pub line_word : ℕ → ℕ → ℕ → ℕ → ℕ
-line_word code field d k = code % 65536 + (d % 256) * 65536 + field * 16777216 + (k % 4294967296) * 4294967296
-
--- the fields: 0 none, 1 jt, 2 jf, 3 the k of a ja
-abbrev pub field_of : Slot → ℕ
-field_of jt = 1
-field_of jf = 2
-
-abbrev pub packed : Line → ℕ
-packed (op o) = line_word (op_insn o).code 0 0 (op_insn o).k
-packed (test t k s e) = line_word (test_code t) (field_of s) (distance e) k
-packed (ja e) = line_word 0x05 3 (distance e) 0
-
-abbrev pub packs : Block → List ℕ
-packs [] = []
-packs (l ∷ b) = packed l ∷ packs b
-
--- a distance put into a line
-abbrev pub with_distance : ℕ → ℕ → ℕ
-with_distance w d = w % 65536 + d * 65536 + w / 16777216 * 16777216
-
--- the operation of a code
-unfoldable pub op_of : ℕ → ℕ → Op
-op_of c k =
-    cond (eqb c 0x20) (ld_abs word k)
-    (cond (eqb c 0x28) (ld_abs half k)
-    (cond (eqb c 0x30) (ld_abs byte k)
-    (cond (eqb c 0x48) (ldh_ind k)
-    (cond (eqb c 0xb1) (ldx_msh k)
-    (cond (eqb c 0x01) (ldx_imm k)
-    (and_k k))))))
-
-unfoldable pub test_of : ℕ → Test
-test_of c = cond (eqb c 0x15) jeq (cond (eqb c 0x25) jgt (cond (eqb c 0x35) jge jset))
-
-abbrev pub slot_of : ℕ → Slot
-slot_of f = cond (eqb f 1) jt jf
-
--- ---- pending jumps
+-- a block's instructions; a jump that is still open has the distance 0
+abbrev pub assembled : Block → List Insn
+assembled = map assemble
 
 abbrev pub exit_of : Line → Exit
-exit_of (op o) = skip 0
-exit_of (test t k s e) = e
-exit_of (ja e) = e
-
-abbrev pub pending : Side → ℕ → Exit → List ℕ → List ℕ
-pending e p (skip n) rest = rest
-pending e p (leave q) rest = cond (same e q) (p ∷ rest) rest
-
--- the places of the lines that leave by the side e, of a block whose first line is at p
-abbrev pub places : Side → ℕ → Block → List ℕ
-places e p [] = []
-places e p (l ∷ b) = pending e p (exit_of l) (places e (p + 1) b)
+exit_of (Plain o) = Skip 0
+exit_of (Branch t k s e) = e
+exit_of (Jump e) = e
 
 -- how often a block writes X
 abbrev pub writes : Block → ℕ
 writes [] = 0
 writes (l ∷ b) = cond (sets_x l) 1 0 + writes b
 
+-- ---- pending jumps
+
+abbrev pub place_of : Patch → ℕ
+place_of (P.Jt i) = i
+place_of (P.Jf i) = i
+place_of (P.Ja i) = i
+
+abbrev pub slot_patch : Slot → ℕ → Patch
+slot_patch Jt i = P.Jt i
+slot_patch Jf i = P.Jf i
+
+-- the field of a line at place i that its distance goes to
+abbrev pub patch_of : Line → ℕ → Patch
+patch_of (Plain o) i = P.Ja i
+patch_of (Branch t k s e) i = slot_patch s i
+patch_of (Jump e) i = P.Ja i
+
+abbrev pub pending : Side → Patch → Exit → List Patch → List Patch
+pending e q (Skip n) rest = rest
+pending e q (Leave p) rest = cond (same e p) (q ∷ rest) rest
+
+-- the pending jumps by the side e, of a block whose first line is at i
+abbrev pub patches : Side → ℕ → Block → List Patch
+patches e i [] = []
+patches e i (l ∷ b) = pending e (patch_of l i) (exit_of l) (patches e (i + 1) b)
+
+-- those of a stack
+abbrev pub waiting : Stack → List Patch
+waiting s = take s.len s.patches.now
+
 -- ---- resolving
 
-pub data Patched : Type 0 where
-  patched : List ℕ → Patched
-  too_far : Patched
+abbrev pub no_insn : Insn
+no_insn = insn 0 0 0 0
 
--- the lines at these places get their distance to a target
-unfoldable pub resolve : List ℕ → ℕ → List ℕ → Patched
-resolve [] to I = patched I
-resolve (p ∷ ps) to I = cond (ltb 255 (to - p - 1)) too_far (resolve ps to (set I p (with_distance (get_or I p 0) (to - p - 1))))
+-- an instruction with a distance in the field that a patch names
+abbrev pub with_distance : Patch → ℕ → Insn → Insn
+with_distance (P.Jt i) d x = insn x.code d x.jf x.k
+with_distance (P.Jf i) d x = insn x.code x.jt d x.k
+with_distance (P.Ja i) d x = insn x.code x.jt x.jf d
+
+-- "writes jt, jf or k of one Insn .., all others unchanged": the row with that field of that instruction set to d
+abbrev pub resolved : Patch → ℕ → List Insn → List Insn
+resolved q d xs = set xs (place_of q) (with_distance q d (get_or xs (place_of q) no_insn))
+
+-- the row with the distances of these pending jumps to a target; number 8, "a resolved distance exceeds 255"
+unfoldable pub resolve : List Patch → ℕ → List Insn → Out (List Insn)
+resolve [] to xs = Ok xs
+resolve (q ∷ qs) to xs = let d = to - place_of q - 1 in cond (ltb 255 d) (Err FarJump) (resolve qs to (resolved q d xs))
 
 -- every place is before the target
-abbrev pub Below : ℕ → List ℕ → Type 0
+abbrev pub Below : ℕ → List Patch → Type 0
 Below to [] = Unit {0}
-Below to (p ∷ ps) = (p < to) × Below to ps
+Below to (q ∷ qs) = (place_of q < to) × Below to qs

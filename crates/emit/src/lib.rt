@@ -1,292 +1,248 @@
-// Blocks in lent slices: codegen.rs `push`, `resolve`, `check_byte` and their like. Each line is one number in `insns`; `success` and
-// `failure` hold the places of the lines whose jumps are pending, the `Patches` of the source.
+// Blocks in lent slices: codegen.rs `push`, `resolve`, `check_byte` and their like.
 #![tactic(auto)]
 
-ghost use Rattle.std.specs.Prelude.{◌≡◌, [], ◌∷◌, ◌++◌, ◌+◌, ◌*◌, ◌-◌, ◌^◌, ◌%◌, ◌≤◌, ◌<◌, length, get_or, set, eqb, cond};
-ghost use Rattle.std.proofs.Math.Seq.{slice};
-ghost use Rattle.codegen.specs.Block as B;
-ghost use Rattle.codegen.specs.Block.{byte, half, word, skip, leave, jt, jf, jeq, op, test, ja, op_insn, test_code};
+ghost use Rattle.std.specs.Prelude.{◌≡◌, false, [], ◌∷◌, ◌+◌, ◌-◌, ◌≤◌, ◌<◌, length, set, drop};
+ghost use Rattle.codegen.specs.declared.Side.TheVariants.{Failure};
+ghost use Rattle.codegen.specs.Block.{far_line};
 ghost use Rattle.codegen.specs.Emit as E;
-ghost use Rattle.emit.specs.Lines.{line_word, field_of, with_distance, op_of, test_of, slot_of, resolve, Below};
-ghost use Rattle.emit.specs.Grown.{Space, Place, Put, PutFailure, PutSuccess, Resolves, Otherwise};
+ghost use Rattle.emit.specs.Lines.{exit_of, patch_of, place_of, resolved, resolve, Below, waiting};
+ghost use Rattle.emit.specs.Grown.{Empty, Turned, Fits, Space, Room, Put, Free, Waits, Grows, Settles, Open, Settled, Otherwise};
 
-use codegen::Facts;
+use ast::LinkType;
+use bpf::Insn;
+use codegen::{Exit, Facts, Line, Op, Side, Slot, Test, Width};
 use error::Refusal;
 
-// ---- what is passed
+// ---- pending jumps
 
-// How much of the program and of the two stacks of pending jumps is filled, and how often X was written.
-#[derive(Clone, Copy)]
-pub struct Patches {
-    pub insns: usize,
-    pub success: usize,
-    pub failure: usize,
-    pub x_writes: usize,
+// The field of an instruction that waits for a distance, by the instruction's place: codegen.rs `Patch`.
+#[derive(Clone, Copy, Debug, PartialEq, Eq)]
+pub enum Patch {
+    Jt(u16),
+    Jf(u16),
+    Ja(u16),
 }
 
-// The patches after a condition, and the facts on the path that code falls through.
-#[derive(Clone, Copy)]
-pub struct Emitted {
-    pub patches: Patches,
+impl Patch {
+    fn place(self) -> usize
+        ensures { result ≡ place_of self }
+    {
+        match self {
+            Patch::Jt(i) | Patch::Jf(i) | Patch::Ja(i) => usize::from(i),
+        }
+    }
+}
+
+// Its jump, which is near.
+fn exit_of(line: Line) -> Exit
+    ensures exit { result ≡ exit_of line }
+    ensures near { far_line line ≡ false }
+{
+    match line {
+        Line::Plain(_) => Exit::Skip(0),
+        Line::Branch(_, _, _, exit) | Line::Jump(exit) => exit,
+    }
+}
+
+// The field of a line at a place that its distance goes to.
+fn patch_of(line: Line, place: u16) -> Patch
+    ensures { result ≡ patch_of line place }
+{
+    match line {
+        Line::Branch(_, _, Slot::Jt, _) => Patch::Jt(place),
+        Line::Branch(_, _, Slot::Jf, _) => Patch::Jf(place),
+        Line::Plain(_) | Line::Jump(_) => Patch::Ja(place),
+    }
+}
+
+// Writes the field that a patch names, jt, jf or k of one instruction, if the lent row reaches so far. All others stay.
+fn resolve(insns: &mut [Insn], patch: Patch, distance: u8)
+    ensures { insns.new ≡ resolved patch distance insns.old }
+{
+    let i = patch.place();
+    if i < insns.len() {
+        match patch {
+            Patch::Jt(_) => insns[i].jt = distance,
+            Patch::Jf(_) => insns[i].jf = distance,
+            Patch::Ja(_) => insns[i].k = u32::from(distance),
+        }
+    }
+}
+
+// Gives pending jumps their distance to a target, or refuses where one exceeds 255.
+fn resolve_all(insns: &mut [Insn], patches: &[Patch], target: usize) -> Result<(), Refusal>
+    requires { Below target patches.now }
+    ensures { Settles (resolve patches.now target insns.old) insns.new result }
+{
+    for patch in patches {
+        let distance = target - patch.place() - 1;
+        let Ok(near) = u8::try_from(distance) else {
+            return Err(Refusal::FarJump);
+        };
+        resolve(insns, *patch, near);
+    }
+    Ok(())
+}
+
+// The pending jumps by one side: those of a lent row up to a length.
+// No memory is asked for, so that the row is lent and its length stands beside it.
+#[derive(Drop)]
+pub struct Stack<'a> {
+    pub patches: &'a mut [Patch],
+    pub len: usize,
+}
+
+impl<'a> Stack<'a> {
+    fn push(&mut self, patch: Patch)
+        requires { self.old.len < length self.old.patches.now }
+        ensures len { self.new.len ≡ self.old.len + 1 }
+        ensures patches { self.new.patches.now ≡ set self.old.patches.now self.old.len patch }
+    {
+        self.patches[self.len] = patch;
+        self.len += 1;
+    }
+
+    // Gives the pending jumps since the stack was `mark` long their distance to a target.
+    fn settle(&self, insns: &mut [Insn], mark: usize, target: usize) -> Result<(), Refusal>
+        requires mark { mark ≤ self.now.len }
+        requires room { self.now.len ≤ length self.now.patches.now }
+        requires below { Below target (drop mark (waiting self.now)) }
+        ensures { Settles (resolve (drop mark (waiting self.now)) target insns.old) insns.new result }
+    {
+        resolve_all(insns, &self.patches[mark..self.len], target)
+    }
+}
+
+// ---- a program that is being written
+
+// The lines so far, as far as the lent row reaches: who asks for the count alone lends none; the jumps that are still open; how often X was
+// written; and the facts on the path that code falls through.
+#[derive(Drop)]
+pub struct Emitter<'a> {
+    pub link: LinkType,
+    pub insns: &'a mut [Insn],
+    pub count: usize,
+    pub success: Stack<'a>,
+    pub failure: Stack<'a>,
+    pub x_writes: usize,
     pub facts: Facts,
 }
 
-#[derive(Clone, Copy)]
-pub enum Emission {
-    Done(Emitted),
-    Refused(Refusal),
-}
-
-// The patches after a block was settled, and whether every distance was within 255.
-#[derive(Clone, Copy)]
-pub struct Settled {
-    pub patches: Patches,
-    pub near: bool,
-}
-
-// ---- lines
-
-fn line(code: u16, field: u8, distance: u8, k: u32) -> u64
-    requires { field < 4 }
-    ensures { result ≡ line_word code field distance k }
-{
-    (code as u64) + (distance as u64) * 65536 + (field as u64) * 16777216 + (k as u64) * 4294967296
-}
-
-// Class LDX writes X.
-fn counted(before: usize, code: u16) -> usize
-    requires { before < 65536 }
-    ensures { result ≡ before + cond (eqb (code % 8) 1) 1 0 }
-{
-    if code % 8 == 1 {
-        return before + 1;
-    }
-    before
-}
-
-// Writes a line at its place, if the lent lines reach so far.
-pub fn put_line(insns: &mut [u64], place: usize, line: u64)
-    ensures { insns.new ≡ set insns.old place line }
-{
-    if place < insns.len() {
-        insns[place] = line;
-    }
-}
-
-pub fn push(insns: &mut [u64], p: Patches, code: u16, k: u32) -> Patches
-    requires { Place 1 p × ((op_insn (op_of code k)).code ≡ code) × ((op_insn (op_of code k)).k ≡ k) }
-    ensures { Put (op (op_of code k) ∷ []) insns.old p insns.new result }
-{
-    let n = p.insns;
-    let x = counted(p.x_writes, code);
-    put_line(insns, n, line(code, 0, 0, k));
-    Patches {
-        insns: n + 1,
-        success: p.success,
-        failure: p.failure,
-        x_writes: x,
-    }
-}
-
-// A test whose field, 1 for jt and 2 for jf, fails.
-pub fn test_failure(
-    insns: &mut [u64],
-    failure: &mut [u16],
-    p: Patches,
-    code: u16,
-    k: u32,
-    field: u8,
-) -> Patches
-    requires { Space 1 failure.old p p.failure × (test_code (test_of code) ≡ code) × (field_of (slot_of field) ≡ field) }
-    ensures { PutFailure (test (test_of code) k (slot_of field) (leave B.failure) ∷ []) insns.old failure.old p insns.new failure.new result }
-{
-    let n = p.insns;
-    let m = p.failure;
-    put_line(insns, n, line(code, field, 0, k));
-    failure[m] = n as u16;
-    Patches {
-        insns: n + 1,
-        success: p.success,
-        failure: m + 1,
-        x_writes: p.x_writes,
-    }
-}
-
-// A jeq whose jt succeeds.
-pub fn test_success(insns: &mut [u64], success: &mut [u16], p: Patches, k: u32) -> Patches
-    requires { Space 1 success.old p p.success }
-    ensures { PutSuccess (test jeq k jt (leave B.success) ∷ []) insns.old success.old p insns.new success.new result }
-{
-    let n = p.insns;
-    let m = p.success;
-    put_line(insns, n, line(0x15, 1, 0, k));
-    success[m] = n as u16;
-    Patches {
-        insns: n + 1,
-        success: m + 1,
-        failure: p.failure,
-        x_writes: p.x_writes,
-    }
-}
-
-// A jeq whose jt goes over d lines.
-pub fn test_skip(insns: &mut [u64], p: Patches, k: u32, d: u8) -> Patches
-    requires { Place 1 p }
-    ensures { Put (test jeq k jt (skip d) ∷ []) insns.old p insns.new result }
-{
-    let n = p.insns;
-    put_line(insns, n, line(0x15, 1, d, k));
-    Patches {
-        insns: n + 1,
-        success: p.success,
-        failure: p.failure,
-        x_writes: p.x_writes,
-    }
-}
-
-fn ja_success(insns: &mut [u64], success: &mut [u16], p: Patches) -> Patches
-    requires { Space 1 success.old p p.success }
-    ensures { PutSuccess (ja (leave B.success) ∷ []) insns.old success.old p insns.new success.new result }
-{
-    let n = p.insns;
-    let m = p.success;
-    put_line(insns, n, line(0x05, 3, 0, 0));
-    success[m] = n as u16;
-    Patches {
-        insns: n + 1,
-        success: m + 1,
-        failure: p.failure,
-        x_writes: p.x_writes,
-    }
-}
-
-pub fn ja_skip(insns: &mut [u64], p: Patches, d: u8) -> Patches
-    requires { Place 1 p }
-    ensures { Put (ja (skip d) ∷ []) insns.old p insns.new result }
-{
-    let n = p.insns;
-    put_line(insns, n, line(0x05, 3, d, 0));
-    Patches {
-        insns: n + 1,
-        success: p.success,
-        failure: p.failure,
-        x_writes: p.x_writes,
-    }
-}
-
-// ---- resolving
-
-// A line whose jump goes over d lines. Which field of the instruction that is, is written in the row of instructions (`output`).
-fn with_distance(w: u64, d: u64) -> u64
-    requires { d < 256 }
-    ensures { result ≡ with_distance w d }
-{
-    w % 65536 + d * 65536 + w / 16777216 * 16777216
-}
-
-// Gives the line at a place its distance, if the lent lines reach so far.
-fn resolve_line(insns: &mut [u64], place: usize, d: u64)
-    requires { d < 256 }
-    ensures { insns.new ≡ set insns.old place (with_distance (get_or insns.old place 0) d) }
-{
-    if place < insns.len() {
-        insns[place] = with_distance(insns[place], d);
-    }
-}
-
-// Gives the pending jumps from `from` up to `to` of a stack their distance to `target`, or answers false where one exceeds 255.
-pub fn resolve_all(insns: &mut [u64], stack: &[u16], from: usize, to: usize, target: usize) -> bool
-    requires { (from ≤ to) × (to ≤ length stack.now) × Below target (slice from to stack.now) }
-    ensures { Resolves (resolve (slice from to stack.now) target insns.old) insns.new result }
-{
-    let mut i = from;
-    while i < to {
-        let place = stack[i] as usize;
-        let d = target - place - 1;
-        if 255 < d {
-            return false;
+impl<'a> Emitter<'a> {
+    // Nothing is written.
+    pub fn new(
+        link: LinkType,
+        facts: Facts,
+        insns: &'a mut [Insn],
+        success: &'a mut [Patch],
+        failure: &'a mut [Patch],
+    ) -> Emitter<'a>
+        ensures { Empty link facts insns.old success.old failure.old result }
+    {
+        Emitter {
+            link,
+            insns,
+            count: 0,
+            success: Stack {
+                patches: success,
+                len: 0,
+            },
+            failure: Stack {
+                patches: failure,
+                len: 0,
+            },
+            x_writes: 0,
+            facts,
         }
-        resolve_line(insns, place, d as u64);
-        i += 1;
     }
-    true
-}
 
-// The failures of the block added since `mark` go to what follows it, and its success jumps out.
-pub fn otherwise(
-    insns: &mut [u64],
-    success: &mut [u16],
-    failure: &mut [u16],
-    p: Patches,
-    mark: usize,
-) -> Settled
-    requires { Space 1 success.old p p.success × (mark ≤ p.failure) × (p.failure ≤ length failure.old) × Below p.insns (slice mark p.failure failure.old) }
-    ensures { Otherwise mark insns.old success.old failure.old p insns.new success.new failure.new result.patches result.near }
-{
-    let to = p.failure;
-    let t = ja_success(insns, success, p);
-    let target = t.insns;
-    let near = resolve_all(insns, failure, mark, to, target);
-    let q = Patches {
-        insns: target,
-        success: t.success,
-        failure: mark,
-        x_writes: t.x_writes,
-    };
-    Settled {
-        patches: q,
-        near: near,
+    // Success and failure are exchanged.
+    pub fn turn(&mut self)
+        ensures { Turned self.old self.new }
+    {
+        std::mem::swap(&mut self.success, &mut self.failure);
     }
-}
 
-// ---- tests
+    // Writes an instruction at the end, if the lent row reaches so far.
+    pub fn put(&mut self, insn: Insn)
+        requires { self.old.count + 1 ≤ 65536 }
+        ensures { Put insn self.old self.new }
+    {
+        if self.count < self.insns.len() {
+            self.insns[self.count] = insn;
+        }
+        self.count += 1;
+    }
 
-// `jeq_k` whose jf fails.
-pub fn need(insns: &mut [u64], failure: &mut [u16], p: Patches, k: u32) -> Patches
-    requires { Space 1 failure.old p p.failure }
-    ensures { PutFailure (E.need k ∷ []) insns.old failure.old p insns.new failure.new result }
-{
-    test_failure(insns, failure, p, 0x15, k, 2)
-}
+    // A jump that is still open, on the stack of its side.
+    fn wait(&mut self, exit: Exit, patch: Patch)
+        requires { Free exit self.old }
+        ensures { Waits exit patch self.old self.new }
+    {
+        match exit {
+            Exit::Skip(_) => {}
+            Exit::Leave(Side::Success) => self.success.push(patch),
+            Exit::Leave(Side::Failure) => self.failure.push(patch),
+        }
+    }
 
-pub fn check_byte(
-    insns: &mut [u64],
-    failure: &mut [u16],
-    p: Patches,
-    off: u32,
-    expected: u32,
-) -> Patches
-    requires { Space 2 failure.old p p.failure }
-    ensures { PutFailure (E.check byte off expected) insns.old failure.old p insns.new failure.new result }
-{
-    let t = push(insns, p, 0x30, off);
-    need(insns, failure, t, expected)
-}
+    // A line at the end.
+    pub fn add(&mut self, line: Line)
+        requires { Fits line self.old }
+        ensures { Grows (line ∷ []) self.old self.new }
+    {
+        let place = self.count as u16;
+        self.put(line.assemble());
+        self.x_writes += usize::from(line.sets_x());
+        self.wait(exit_of(line), patch_of(line, place));
+    }
 
-pub fn check_halfword(
-    insns: &mut [u64],
-    failure: &mut [u16],
-    p: Patches,
-    off: u32,
-    expected: u32,
-) -> Patches
-    requires { Space 2 failure.old p p.failure }
-    ensures { PutFailure (E.check half off expected) insns.old failure.old p insns.new failure.new result }
-{
-    let t = push(insns, p, 0x28, off);
-    need(insns, failure, t, expected)
-}
+    // The exits by a side, since its stack was `mark` long, go to so many lines past the end.
+    // Two arms: a method that lends one of the stacks would hold the whole emitter, whose row is written meanwhile.
+    pub fn settle(&mut self, side: Side, mark: usize, over: usize) -> Result<(), Refusal>
+        requires { Open side mark over self.old }
+        ensures { Settled side mark over self.old self.new result }
+    {
+        let target = self.count + over;
+        match side {
+            Side::Success => {
+                self.success.settle(self.insns, mark, target)?;
+                self.success.len = mark;
+            }
+            Side::Failure => {
+                self.failure.settle(self.insns, mark, target)?;
+                self.failure.len = mark;
+            }
+        }
+        Ok(())
+    }
 
-pub fn check_word(
-    insns: &mut [u64],
-    failure: &mut [u16],
-    p: Patches,
-    off: u32,
-    expected: u32,
-) -> Patches
-    requires { Space 2 failure.old p p.failure }
-    ensures { PutFailure (E.check word off expected) insns.old failure.old p insns.new failure.new result }
-{
-    let t = push(insns, p, 0x20, off);
-    need(insns, failure, t, expected)
+    // The failures since their stack was `mark` long go to what follows, and success jumps out.
+    pub fn otherwise(&mut self, mark: usize) -> Result<(), Refusal>
+        requires room { Room 1 self.old }
+        requires open { Open Failure mark 0 self.old }
+        ensures { Otherwise mark self.old self.new result }
+    {
+        self.add(Line::Jump(Exit::Leave(Side::Success)));
+        self.settle(Side::Failure, mark, 0)
+    }
+
+    // ---- tests
+
+    // `jeq_k` whose jf fails.
+    pub fn need(&mut self, k: u32)
+        requires { Space 1 self.old }
+        ensures { Grows (E.need k ∷ []) self.old self.new }
+    {
+        self.add(Line::Branch(Test::Jeq, k, Slot::Jf, Exit::Leave(Side::Failure)));
+    }
+
+    // `check_byte`, `check_halfword`, `check_word`.
+    pub fn check(&mut self, width: Width, off: u32, expected: u32)
+        requires { Space 2 self.old }
+        ensures { Grows (E.check width off expected) self.old self.new }
+    {
+        self.add(Line::Plain(Op::LdAbs(width, off)));
+        self.need(expected);
+    }
 }

@@ -2,15 +2,15 @@
 #![tactic(auto)]
 
 ghost use Rattle.std.specs.Prelude.{◌≡◌};
-ghost use Rattle.ast.specs.Tree.{EtherMulticast};
+ghost use Rattle.ast.specs.declared.Primitive.TheVariants.{EtherMulticast};
 ghost use Rattle.codegen.specs.Emit as E;
-ghost use Rattle.emit.specs.Grown.{Room, Space, Reply, ReplyFailure};
+ghost use Rattle.emit.specs.Grown.{Room, Space, Replies};
 ghost use Rattle.conditions.specs.Loads as L;
 
 use ast::{Dir, LinkType};
-use codegen::Facts;
-use conditions::{Shape, check_mac, check_sides};
-use emit::{Emission, Emitted, Patches, check_halfword, push, test_failure};
+use codegen::{Exit, Line, Op, Side, Slot, Test, Width};
+use conditions::{Check, Mac, check_sides};
+use emit::Emitter;
 use error::Refusal;
 
 // Where the addresses stand.
@@ -30,98 +30,54 @@ fn turned(dir: Dir) -> Dir
     match dir {
         Dir::Src => Dir::Dst,
         Dir::Dst => Dir::Src,
-        Dir::SrcAndDst => Dir::SrcAndDst,
-        Dir::SrcOrDst => Dir::SrcOrDst,
+        Dir::SrcAndDst | Dir::SrcOrDst => dir,
     }
 }
 
 // A cooked capture has a sender's address and no other. Its length is tested first.
-fn emit_sender(
-    insns: &mut [u64],
-    failure: &mut [u16],
-    p: Patches,
-    facts: Facts,
-    dir: Dir,
-    four: u32,
-    two: u32,
-) -> Emission
-    requires { Space 6 failure.old p p.failure }
-    ensures { ReplyFailure (E.unlearned (E.sender dir (L.mac_block four two 6)) facts) insns.old failure.old p insns.new failure.new result }
+fn emit_sender(e: &mut Emitter<'_>, dir: Dir, mac: &Mac) -> Result<(), Refusal>
+    requires { Space 6 e.old }
+    ensures { Replies (E.unlearned (E.sender dir (L.mac_block mac.now.four mac.now.two 6)) e.old.facts) e.old e.new result }
 {
     match dir {
         Dir::Src => {
-            let q = check_halfword(insns, failure, p, LENGTH, MAC_LENGTH);
-            let t = check_mac(insns, failure, q, four, two, SOURCE);
-            Emission::Done(Emitted {
-                patches: t,
-                facts: facts,
-            })
+            e.check(Width::Half, LENGTH, MAC_LENGTH);
+            mac.check(e, SOURCE);
+            Ok(())
         }
-        Dir::Dst => Emission::Refused(Refusal::CookedAddress),
-        Dir::SrcAndDst => Emission::Refused(Refusal::CookedAddress),
-        Dir::SrcOrDst => Emission::Refused(Refusal::CookedAddress),
+        Dir::Dst | Dir::SrcAndDst | Dir::SrcOrDst => Err(Refusal::CookedAddress),
     }
 }
 
 // The destination is tested first.
-pub fn emit_ether_host(
-    link: LinkType,
-    insns: &mut [u64],
-    success: &mut [u16],
-    failure: &mut [u16],
-    p: Patches,
-    facts: Facts,
-    dir: Dir,
-    four: u32,
-    two: u32,
-) -> Emission
-    requires { Room 9 success.old failure.old p }
-    ensures { Reply (E.ether link (E.check_blocks (E.turned dir) (L.mac_block four two 0) (L.mac_block four two 6)) (E.sender dir (L.mac_block four two 6)) facts) insns.old success.old failure.old p insns.new success.new failure.new result }
+#[tactic(auto, unfolding(codegen::specs::Emit::ether))]
+pub fn emit_ether_host(e: &mut Emitter<'_>, dir: Dir, four: u32, two: u32) -> Result<(), Refusal>
+    requires { Room 9 e.old }
+    ensures { Replies (E.ether e.old.link (E.check_blocks (E.turned dir) (L.mac_block four two 0) (L.mac_block four two 6)) (E.sender dir (L.mac_block four two 6)) e.old.facts) e.old e.new result }
 {
-    match link {
+    let mac = Mac { four, two };
+    match e.link {
         LinkType::Ethernet => {
-            let shape = Shape::Mac(four, two);
-            let turned = turned(dir);
-            let t = check_sides(
-                insns,
-                success,
-                failure,
-                p,
-                turned,
-                shape,
-                DESTINATION,
-                SOURCE,
-            );
-            Emission::Done(Emitted {
-                patches: t,
-                facts: facts,
-            })
+            check_sides(e, turned(dir), &mac, DESTINATION, SOURCE);
+            Ok(())
         }
-        LinkType::RawIp => Emission::Refused(Refusal::EtherOnRaw),
-        LinkType::LinuxSll => emit_sender(insns, failure, p, facts, dir, four, two),
+        LinkType::RawIp => Err(Refusal::EtherOnRaw),
+        LinkType::LinuxSll => emit_sender(e, dir, &mac),
     }
 }
 
-pub fn emit_ether_multicast(
-    link: LinkType,
-    insns: &mut [u64],
-    failure: &mut [u16],
-    p: Patches,
-    facts: Facts,
-) -> Emission
-    requires { Space 2 failure.old p p.failure }
-    ensures { ReplyFailure (E.emit_primitive link EtherMulticast facts) insns.old failure.old p insns.new failure.new result }
+#[tactic(auto, unfolding(codegen::specs::Emit::ether, codegen::specs::Emit::emit_primitive))]
+pub fn emit_ether_multicast(e: &mut Emitter<'_>) -> Result<(), Refusal>
+    requires { Space 2 e.old }
+    ensures { Replies (E.emit_primitive e.old.link EtherMulticast e.old.facts) e.old e.new result }
 {
-    match link {
+    match e.link {
         LinkType::Ethernet => {
-            let q = push(insns, p, 0x30, DESTINATION);
-            let t = test_failure(insns, failure, q, 0x45, 1, 2);
-            Emission::Done(Emitted {
-                patches: t,
-                facts: facts,
-            })
+            e.add(Line::Plain(Op::LdAbs(Width::Byte, DESTINATION)));
+            e.add(Line::Branch(Test::Jset, 1, Slot::Jf, Exit::Leave(Side::Failure)));
+            Ok(())
         }
-        LinkType::RawIp => Emission::Refused(Refusal::EtherOnRaw),
-        LinkType::LinuxSll => Emission::Refused(Refusal::CookedAddress),
+        LinkType::RawIp => Err(Refusal::EtherOnRaw),
+        LinkType::LinuxSll => Err(Refusal::CookedAddress),
     }
 }

@@ -12,6 +12,7 @@ const BITS: u8 = 16;
 // The mask of a segment that counts whole.
 pub const FULL: u16 = 0xffff;
 
+// Two lists, as the definitions have them.
 #[derive(Clone, Copy)]
 pub struct Net6 {
     pub masks: [u16; 8],
@@ -36,6 +37,7 @@ fn mask_at(i: u8, full: u8, part: u16) -> u16
     if i == full { part } else { 0 }
 }
 
+// Eight in a literal: a loop with a mask from a table was slower.
 fn masks_of(prefix: u8) -> [u16; 8]
     ensures { result ≡ N.masks prefix }
 {
@@ -58,6 +60,7 @@ pub fn net6_of(prefix: u8, segments: [u16; 8]) -> Net6
     ensures { (result.masks ≡ N.masks prefix) × (result.expected ≡ N.expected prefix segments) }
 {
     let masks = masks_of(prefix);
+    // Eight in a literal, for the same reason.
     let expected = [
         segments[0] & masks[0],
         segments[1] & masks[1],
@@ -68,8 +71,5 @@ pub fn net6_of(prefix: u8, segments: [u16; 8]) -> Net6
         segments[6] & masks[6],
         segments[7] & masks[7],
     ];
-    Net6 {
-        masks: masks,
-        expected: expected,
-    }
+    Net6 { masks, expected }
 }

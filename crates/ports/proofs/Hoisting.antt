@@ -1,41 +1,38 @@
--- Prologues and hoisted guards: their sizes, their parts, and one part after another.
-use Prim.Native.Nat.{ℕ, ◌+◌, ◌≤◌}
-use mathlib.Core.Path.{◌≡◌, refl, sym, ap, ◌∙◌, subst}
-use mathlib.Core.List.{List, [], ◌∷◌, ◌++◌, append-nil, append_assoc}
-use mathlib.Core.Bool.{true, false}
-use mathlib.Core.Option.{Option, none, some}
-use native.Mathlib.Omega.{arith}
-use lib.ListN.{length, length-append}
+-- Prologues and hoisted guards: their sizes, and one part after another.
+use Rattle.std.proofs.Common.{◌≡◌, ℕ, ◌+◌, ◌≤◌, subst, [], ◌∷◌, ◌++◌, length, Bool, true, false, not, cond, Option, None, Some, Ok, Err, arith, length-append}
 use lib.Dec.{eqb}
-use Rattle.error.specs.Answer.{Out, refused, done, ◌>>=◌}
-use Rattle.error.proofs.All.{either, All, all_bind}
+use borrow.Author.Tests.{eq-eqb, ne_eqb}
+use denote.Enum.Bare.{sameb}
+use Rattle.error.specs.declared.Refusal.{Refusal}
+use Rattle.error.specs.Answer.{Out}
+use Rattle.error.proofs.All.{All, either, all_bind}
 use Rattle.ast.specs.declared.LinkType.{LinkType}
+use Rattle.ast.specs.declared.LinkType.TheVariants.{Ethernet, RawIp, LinuxSll}
+use Rattle.ast.specs.contracts.LinkType.{the_type}
 use Rattle.codegen.specs.declared.L4Set.{L4Set}
 use Rattle.codegen.specs.declared.L4Set.TheVariants.{One, TcpOrUdp}
-use Rattle.codegen.specs.declared.Known.{Known}
-use Rattle.codegen.specs.declared.Known.TheVariants.{Unknown, Is}
 use Rattle.codegen.specs.declared.Facts.{Facts}
 use Rattle.codegen.specs.declared.GuardSet.{GuardSet}
-use Rattle.codegen.specs.Facts.{ready, ready_set, contains, holds, ready_for, learn_ip4, learn_ip6, with_ports}
-use Rattle.codegen.specs.Block.{half, ld_abs, jeq, skip, jt, op, test, ja, Block}
-use Rattle.codegen.specs.Emit.{net_offset, ether_proto_offset, Code, code, need, l4_set_check, l4_check, header4, header6, fork, dual_path, Prologue, pinned, version, learn_set, established, dual, ethertype_at, emit_ethertype, emit_l4, emit_ip4_l4, emit_ip6_l4, port_prereqs, hoist_known, hoist_ports}
-use Rattle.emit.specs.declared.Patches.{Patches}
-use Rattle.emit.specs.declared.Emitted.{Emitted}
-use Rattle.emit.specs.declared.Emission.{Emission}
-use Rattle.emit.specs.declared.Emission.TheVariants.{Done}
-use Rattle.emit.specs.Grown.{PutFailure, MadeFailure, Reply, ReplyFailure}
-use Rattle.emit.proofs.Grow.{none as none-added, Sized, sized}
-use Rattle.emit.proofs.Outcome.{Went, after, bind_reply, unchanged}
-use Rattle.conditions.specs.declared.Offset.TheVariants.{Absent, At}
+use Rattle.codegen.specs.Facts.{contains, holds, ready_for}
+use Rattle.codegen.specs.declared.Width.TheVariants.{Half}
+use Rattle.codegen.specs.declared.Op.TheVariants.{LdAbs}
+use Rattle.codegen.specs.declared.Test.TheVariants.{Jeq}
+use Rattle.codegen.specs.declared.Exit.TheVariants.{Skip}
+use Rattle.codegen.specs.declared.Slot.TheVariants.{Jt}
+use Rattle.codegen.specs.declared.Line.TheVariants.{Plain, Branch, Jump}
+use Rattle.codegen.specs.Block.{Block}
+use Rattle.codegen.specs.Emit.{net_offset, ether_proto_offset, Code, code, need, l4_set_check, l4_check, header4, header6, fork, dual_path, Prologue, version, dual, ethertype_at, emit_ethertype, emit_l4, port_prereqs, is_raw, hoist_known, hoist_ports, or_hoist}
+use Rattle.emit.specs.declared.Emitter.{Emitter}
+use Rattle.emit.specs.Grown.{Grew, Grows, Replies}
+use Rattle.emit.proofs.Grow.{Sized, none, then}
+use Rattle.emit.proofs.Outcome.{Went, reply_done, after_reply, bind_refused}
 use Rattle.conditions.specs.declared.Version.{Version}
-use Rattle.conditions.specs.Loads.{ether_of, proto_place, proto_fact, learn_proto, emit_version, offset_of}
-use Rattle.ports.specs.Hoist.{hoist_ip4, hoist_ip6}
+use Rattle.conditions.specs.declared.Version.TheVariants.{V4, V6}
+use Rattle.conditions.specs.Loads.{ether_of, proto_fact, header, emit_version}
+use Rattle.conditions.proofs.Starts.{Short, went_size}
+use Rattle.ports.specs.Hoist.{version_for, hoist_ethertype, hoist_l4, Follows}
 
 -- ---- sizes
-
--- a block of at most n lines
-abbrev pub Short : ℕ → Code → Type 0
-Short n c = length c.block ≤ n
 
 set_short : (want : L4Set) → length (l4_set_check want) ≤ 2
 unfolding l4_set_check
@@ -46,125 +43,83 @@ pub l4_short : (at : ℕ) (want : L4Set) → length (l4_check at want) ≤ 3
 unfolding l4_check
 l4_short at want = omega (arith, set_short want)
 
-path_short : (at : ℕ) (want : L4Set) (header : Block) → length header ≤ 3 → length (l4_check at want ++ header) ≤ 6
-path_short at want header h = rw length-append (omega (arith, l4_short at want))
+header_short : (v : Version) (n : ℕ) → length (header v n) ≤ 3
+unfolding header4 header6
+header_short V4 n = omega arith
+header_short V6 n = omega arith
 
-header4_short : (n : ℕ) → length (header4 n) ≤ 3
-unfolding header4
-header4_short n = omega arith
+pub path_short : (at n : ℕ) (want : L4Set) (v : Version) → length (l4_check at want ++ header v n) ≤ 6
+path_short at n want v = rw length-append (omega (arith, l4_short at want, header_short v n))
 
-header6_short : length header6 ≤ 3
-unfolding header6
-header6_short = omega arith
-
-pub path4_short : (n : ℕ) (want : L4Set) → length (l4_check (n + 9) want ++ header4 n) ≤ 6
-path4_short n want = path_short (n + 9) want (header4 n) (header4_short n)
-
-version_short : (r : Option L4Set) (q : Known) (at : ℕ) (want : L4Set) (header : Block) → length header ≤ 3 → length (version r q at want header).block ≤ 14
-version_short none Unknown at want header h = omega (arith, path_short at want header h)
-version_short none (Is p) at want header h =
-    either (λ (p : Prologue). length p.block ≤ 14) (contains want p) (omega arith) (omega (arith, path_short at want header h))
-version_short (some r) q at want header h = omega (arith, l4_short at want)
+module _ (at n : ℕ) (want : L4Set) (v : Version) where
+  version_short : (r : Option L4Set) (q : Option ℕ) → length (version r q at want (header v n)).block ≤ 14
+  version_short None None = omega (arith, path_short at n want v)
+  version_short None (Some p) =
+      either (λ (p : Prologue). length p.block ≤ 14) (contains want p) (omega (arith, header_short v n)) (omega (arith, path_short at n want v))
+  version_short (Some r) q = omega (arith, l4_short at want)
 
 dual_short : (off : Option ℕ) (n : ℕ) (want : L4Set) (g : Facts) → length (dual off n want g).block ≤ 14
 unfolding dual_path fork l4_check l4_set_check header4 header6
-dual_short none n want g = omega arith
-dual_short (some off) n (One p) g = omega arith
-dual_short (some off) n TcpOrUdp g = omega arith
+dual_short None n want g = omega arith
+dual_short (Some off) n (One p) g = omega arith
+dual_short (Some off) n TcpOrUdp g = omega arith
 
-module _ (L : LinkType) where
-  pub prereqs_short : (want : L4Set) (g : Facts) → length (port_prereqs L want g).block ≤ 14
-  unfolding port_prereqs
-  prereqs_short want g =
-      either (Short 14) (ready_for g.ports_ready want) (omega arith)
-      (either (Short 14) (holds g.ethertype 0x0800) (version_short (ready_set g.ports_ready) g.ip4_proto (net_offset L + 9) want (header4 (net_offset L)) (header4_short (net_offset L)))
-      (either (Short 14) (holds g.ethertype 0x86dd) (version_short (ready_set g.ports_ready) g.ip6_nh (net_offset L + 6) want header6 header6_short)
-      (dual_short (ether_proto_offset L) (net_offset L) want g)))
+pub prereqs_short : (L : LinkType) (want : L4Set) (g : Facts) → length (port_prereqs L want g).block ≤ 14
+unfolding port_prereqs
+prereqs_short L want g =
+    let n = net_offset L in
+    either (Short 14) (ready_for g.ports_ready want) (omega arith)
+    (either (Short 14) (holds g.ethertype 0x0800) (version_short (n + 9) n want V4 g.ports_ready g.ip4_proto)
+    (either (Short 14) (holds g.ethertype 0x86dd) (version_short (n + 6) n want V6 g.ports_ready g.ip6_nh)
+    (dual_short (ether_proto_offset L) n want g)))
 
 at_short : (off : Option ℕ) (et : ℕ) (g : Facts) → All (Short 2) (ethertype_at off et g)
-at_short none et g = either (All (Short 2)) (eqb et 0x0800) (omega arith) tt
-at_short (some off) et g = either (All (Short 2)) (holds g.ethertype et) (omega arith) (omega arith)
+at_short None et g = either (All (Short 2)) (eqb et 0x0800) (omega arith) tt
+at_short (Some off) et g = either (All (Short 2)) (holds g.ethertype et) (omega arith) (omega arith)
 
 module _ (L : LinkType) where
-  pub ethertype_short : (et : ℕ) (g : Facts) → All (Short 2) (emit_ethertype L et g)
+  ethertype_short : (et : ℕ) (g : Facts) → All (Short 2) (emit_ethertype L et g)
   unfolding emit_ethertype
   ethertype_short et g = at_short (ether_proto_offset L) et g
 
-  l4_of_short : (et at : ℕ) (get : Facts → Known) (learn : Facts → ℕ → Facts) (p : ℕ) (g : Facts) → All (Short 4) (emit_l4 L et at get learn p g)
+  version_l4_short : (v : Version) (n : ℕ) (g : Facts) → All (Short 4) (emit_version L v n g)
   unfolding emit_l4
-  l4_of_short et at get learn p g =
-      all_bind (Short 2) (Short 4) (emit_ethertype L et g) _ (ethertype_short et g)
-      (λ c h. either (All (Short 4)) (holds (get c.facts) p) (omega arith) (rw length-append (omega arith)))
+  version_l4_short v n g =
+      all_bind (Short 2) (Short 4) (emit_ethertype L (ether_of v) g) _ (ethertype_short (ether_of v) g)
+      (λ c h. either (All (Short 4)) (holds (proto_fact v c.facts) n) (omega arith) (rw length-append (omega arith)))
 
   -- a guard after nothing
-  pub known_short : (n : ℕ) (k : Known) (e : ℕ → Facts → Out Code) (g : Facts) → ((v : ℕ) (g : Facts) → All (Short n) (e v g)) → All (Short n) (hoist_known L k e (code [] g))
-  known_short n Unknown e g h = omega arith
-  known_short n (Is v) e g h = all_bind (Short n) (Short n) (e v g) _ (h v g) (λ d j. j)
-
-  pub version_known_short : (v : Version) (k : Known) (g : Facts) → All (Short 4) (hoist_known L k (emit_version L v) (code [] g))
-  version_known_short v k g = known_short 4 k (emit_version L v) g (l4_of_short (ether_of v) (net_offset L + proto_place v) (proto_fact v) (learn_proto v))
-
--- an answer whose block has at most n lines
-pub went_sized : {o : Out Code} {I Y N I' Y' N' : List ℕ} {s : Patches} {e : Emitted} (n : ℕ) → All (Short n) o → Went o I Y N s I' Y' N' e → Sized n s e.patches
-went_sized n h w = sized n (subst (λ x. All (Short n) x) w.eq h) w.made.grew
+  known_short : (n : ℕ) (k : Option ℕ) (emit : ℕ → Facts → Out Code) (g : Facts) → ((v : ℕ) → All (Short n) (emit v g)) → All (Short n) (hoist_known L k emit (code [] g))
+  known_short n None emit g h = omega arith
+  known_short n (Some v) emit g h = all_bind (Short n) (Short n) (emit v g) _ (h v) (λ d j. j)
 
 -- ---- the parts of a prologue
 
+-- a block by the link's offset after other code
+pub then_at : {c : Code} {e f k : Emitter} (B : ℕ → Block) → Grew c e f → Grows (B (net_offset f.link)) f k
+    → Grew (code (c.block ++ B (net_offset e.link)) c.facts) e k
+then_at {c} {e} {f} {k} B p q =
+    let s = subst (λ (L : LinkType). Grows (B (net_offset L)) f k) p.link q in
+    subst (λ (g : Facts). Grew (code (c.block ++ B (net_offset e.link)) g) e k) p.facts (then p s)
+
 -- the dual path as the code has it
 pub dual_parts : (off n d : ℕ) (want : L4Set) → d ≡ length (l4_set_check want)
-    → (op (ld_abs half off) ∷ test jeq 0x86dd jt (skip (d + 6)) ∷ need 0x0800 ∷ []) ++ (l4_check (n + 9) want ++ header4 n) ++ (ja (skip (d + 2)) ∷ []) ++ l4_check (n + 6) want ++ header6
+    → (Plain (LdAbs Half off) ∷ Branch Jeq 0x86dd Jt (Skip (d + 6)) ∷ need 0x0800 ∷ []) ++ (l4_check (n + 9) want ++ header4 n) ++ (Jump (Skip (d + 2)) ∷ []) ++ l4_check (n + 6) want ++ header6
     ≡ dual_path off n want
 unfolding dual_path fork l4_check l4_set_check header4 header6
 dual_parts off n d (One p) e = rw e
 dual_parts off n d TcpOrUdp e = rw e
 
-module _ {I N I' N' : List ℕ} {s : Patches} where
-  pub made_failure : {c : Code} {t : Patches} {g : Facts} → PutFailure c.block I N s I' N' t → g ≡ c.facts
-      → MadeFailure c I N s I' N' (record { patches = t; facts = g })
-  made_failure h e = record { made = λ Y. record { grew = h.grew Y; facts = e } }
+-- a fact that is the value w, and one that is not
+module _ {k : Option ℕ} where
+  pub is_held : {v w : ℕ} → k ≡ Some v → v ≡ w → holds k w ≡ true
+  is_held {v} {w} q h = rw q (eq-eqb v w h)
 
--- nothing was added
-pub unmoved : (I N : List ℕ) (s : Patches) (g : Facts) → MadeFailure (code [] g) I N s I N (record { patches = s; facts = g })
-unmoved I N s g = record { made = λ Y. record { grew = none-added I Y N s; facts = refl } }
+  pub is_other : {v w : ℕ} → k ≡ Some v → (v ≡ w → ⊥) → holds k w ≡ false
+  is_other {v} {w} q h = rw q (ne_eqb v w h)
 
--- the facts after a prologue that established a set
-abbrev Learns : (Facts → ℕ → Facts) → Facts → L4Set → Facts → Type 0
-Learns learn g set h = h ≡ with_ports (learn_set learn g set) (ready set)
-
--- one version's prologue, by what is known
-module _ (learn : Facts → ℕ → Facts) (g : Facts) (k : Known) (at : ℕ) (want : L4Set) (header : Block) {I N I' N' : List ℕ} {s : Patches} where
-  module _ {t : Patches} {h : Facts} where
-    pub pinned_met : {p : ℕ} → k ≡ Is p → contains want p ≡ true → PutFailure header I N s I' N' t → Learns learn g (One p) h
-        → MadeFailure (established learn g (pinned k at want header)) I N s I' N' (record { patches = t; facts = h })
-    pinned_met e c b f = rw (e, c) (made_failure b f)
-
-    pub pinned_other : {p : ℕ} → k ≡ Is p → contains want p ≡ false → PutFailure (l4_check at want ++ header) I N s I' N' t → Learns learn g want h
-        → MadeFailure (established learn g (pinned k at want header)) I N s I' N' (record { patches = t; facts = h })
-    pinned_other e c b f = rw (e, c) (made_failure b f)
-
-    pub pinned_unknown : k ≡ Unknown → PutFailure (l4_check at want ++ header) I N s I' N' t → Learns learn g want h
-        → MadeFailure (established learn g (pinned k at want header)) I N s I' N' (record { patches = t; facts = h })
-    pinned_unknown e b f = rw e (made_failure b f)
-
-  pub narrowed : (r : Option L4Set) {have : L4Set} {e : Emitted} → r ≡ some have → MadeFailure (established learn g (record { block = l4_check at want; set = want })) I N s I' N' e
-      → MadeFailure (established learn g (version r k at want header)) I N s I' N' e
-  narrowed r q h = rw q h
-
-  pub fresh : (r : Option L4Set) {e : Emitted} → r ≡ none → MadeFailure (established learn g (pinned k at want header)) I N s I' N' e
-      → MadeFailure (established learn g (version r k at want header)) I N s I' N' e
-  fresh r q h = rw q h
-
--- by the place of the ethertype
-module _ (n : ℕ) (want : L4Set) (g : Facts) where
-  pub dual_absent : (o : Option ℕ) (I N : List ℕ) (s : Patches) → Absent ≡ offset_of o → MadeFailure (dual o n want g) I N s I N (record { patches = s; facts = g })
-  dual_absent none I N s e = unmoved I N s g
-  dual_absent (some off) I N s e = let z : ◌≡◌ {A = ℕ} 0 1 = cc in absurd (omega arith)
-
-  pub dual_at : (o : Option ℕ) (off : ℕ) {I N I' N' : List ℕ} {s t : Patches} {h : Facts} → At off ≡ offset_of o → PutFailure (dual_path off n want) I N s I' N' t → h ≡ with_ports g (ready want)
-      → MadeFailure (dual o n want g) I N s I' N' (record { patches = t; facts = h })
-  dual_at none off e b f = let z : ◌≡◌ {A = ℕ} 0 1 = cc in absurd (omega arith)
-  dual_at (some at) off {I} {N} {I'} {N'} {s} {t} e b f =
-      let q : off ≡ at = cc in made_failure (subst (λ x. PutFailure (dual_path x n want) I N s I' N' t) q b) f
+  pub is_unknown : (w : ℕ) → k ≡ None → holds k w ≡ false
+  is_unknown w q = rw q
 
 -- the prologue by its tests
 module _ (L : LinkType) (want : L4Set) (g : Facts) where
@@ -173,13 +128,11 @@ module _ (L : LinkType) (want : L4Set) (g : Facts) where
   prereqs_ready e = rw e
 
   module _ (e : ready_for g.ports_ready want ≡ false) where
-    pub prereqs_ip4 : holds g.ethertype 0x0800 ≡ true
-        → port_prereqs L want g ≡ established learn_ip4 g (version (ready_set g.ports_ready) g.ip4_proto (net_offset L + 9) want (header4 (net_offset L)))
+    pub prereqs_ip4 : holds g.ethertype 0x0800 ≡ true → port_prereqs L want g ≡ version_for L V4 want g
     unfolding port_prereqs
     prereqs_ip4 h = rw (e, h)
 
-    pub prereqs_ip6 : holds g.ethertype 0x0800 ≡ false → holds g.ethertype 0x86dd ≡ true
-        → port_prereqs L want g ≡ established learn_ip6 g (version (ready_set g.ports_ready) g.ip6_nh (net_offset L + 6) want header6)
+    pub prereqs_ip6 : holds g.ethertype 0x0800 ≡ false → holds g.ethertype 0x86dd ≡ true → port_prereqs L want g ≡ version_for L V6 want g
     unfolding port_prereqs
     prereqs_ip6 h j = rw (e, h, j)
 
@@ -190,67 +143,65 @@ module _ (L : LinkType) (want : L4Set) (g : Facts) where
 
 -- ---- hoisted guards
 
--- what follows the code of a block does not depend on the block
-pub record Follows (f : Code → Out Code) : Type 0 where
-  pub on : (b : Block) (g : Facts) → f (code b g) ≡ after b (f (code [] g))
+-- the test for a raw link
+pub raw : (L : LinkType) {b : Bool} → b ≡ not (sameb the_type L RawIp) → is_raw L ≡ not b
+raw Ethernet e = rw e
+raw RawIp e = rw e
+raw LinuxSll e = rw e
 
-after_none : (o : Out Code) → after [] o ≡ o
-after_none (refused r) = refl
-after_none (done c) = refl
+-- a guard that is known, and ports that are required
+module _ (L : LinkType) {e f : Emitter} where
+  pub known_follows : {k : Option ℕ} {v : ℕ} (emit : ℕ → Facts → Out Code) {r : Out (Unit {0})} → k ≡ Some v → Replies (emit v e.facts) e f r
+      → Follows (hoist_known L k emit) e f r
+  known_follows {v = v} emit {r} q h =
+      rw q (record { on = λ c d p. after_reply (emit v c.facts) r p (subst (λ (g : Facts). Replies (emit v g) e f r) p.facts h) })
 
-after_after : (a b : Block) (o : Out Code) → after a (after b o) ≡ after (a ++ b) o
-after_after a b (refused r) = refl
-after_after a b (done c) = rw append_assoc
+  pub ports_follow : {k : Option L4Set} {want : L4Set} → k ≡ Some want → Grew (port_prereqs L want e.facts) e f → Follows (hoist_ports L k) e f (Ok tt)
+  ports_follow {want = want} q h =
+      rw q (record { on = λ c d p. record { is = then p (subst (λ (g : Facts). Grew (port_prereqs L want g) e f) p.facts h) } })
 
-known_on : (L : LinkType) (k : Known) (e : ℕ → Facts → Out Code) (b : Block) (g : Facts) → hoist_known L k e (code b g) ≡ after b (hoist_known L k e (code [] g))
-known_on L Unknown e b g = rw append-nil
-known_on L (Is v) e b g = ap (after b) (sym (after_none (e v g)))
+-- a step's size, by what it adds to nothing
+step_size : {step : Code → Out Code} {e f : Emitter} {r : Out (Unit {0})} {u : Unit {0}} (n : ℕ) → Follows step e f r → All (Short n) (step (code [] e.facts)) → r ≡ Ok u → Sized n e f
+step_size {e = e} n h s d = went_size n s (reply_done (h.on _ e (none e)) d)
 
-known_follows : (L : LinkType) (k : Known) (e : ℕ → Facts → Out Code) → Follows (hoist_known L k e)
-known_follows L k e = record { on = known_on L k e }
+pub ethertype_size : (et : Option ℕ) {e f : Emitter} {r : Out (Unit {0})} {u : Unit {0}} → Follows (hoist_ethertype et e.link) e f r → r ≡ Ok u → Sized 2 e f
+ethertype_size et {e} h d = step_size 2 h (known_short e.link 2 (cond (is_raw e.link) None et) (emit_ethertype e.link) e.facts (λ v. ethertype_short e.link v e.facts)) d
 
-ports_on : (L : LinkType) (p : Option L4Set) (b : Block) (g : Facts) → hoist_ports L p (code b g) ≡ after b (hoist_ports L p (code [] g))
-ports_on L none b g = rw append-nil
-ports_on L (some want) b g = refl
+pub l4_size : (v : Version) (n : Option ℕ) {e f : Emitter} {r : Out (Unit {0})} {u : Unit {0}} → Follows (hoist_l4 v n e.link) e f r → r ≡ Ok u → Sized 4 e f
+l4_size v n {e} h d = step_size 4 h (known_short e.link 4 n (emit_version e.link v) e.facts (λ p. version_l4_short e.link v p e.facts)) d
 
-pub ports_follow : (L : LinkType) (p : Option L4Set) → Follows (hoist_ports L p)
-ports_follow L p = record { on = ports_on L p }
+-- a step after an answer
+follow : {o : Out Code} {d e f : Emitter} {r : Out (Unit {0})} (step : LinkType → Code → Out Code) (w : Went o d e) → Follows (step e.link) e f r
+    → Replies (step d.link w.code) d f r
+follow {d = d} {e} {f} {r} step w h = subst (λ (L : LinkType). Replies (step L w.code) d f r) w.grew.link (h.on w.code d w.grew)
 
-then_on : (k : Code → Out Code) → Follows k → (b : Block) (o : Out Code) → after b o >>= k ≡ after b (o >>= k)
-then_on k h b (refused r) = refl
-then_on k h b (done c) = h.on (b ++ c.block) c.facts ∙ sym (ap (after b) (h.on c.block c.facts) ∙ after_after b c.block (k (code [] c.facts)))
+-- the steps of `or_hoist`, one after another
+module _ (g : GuardSet) {e e₁ : Emitter} {r₁ : Out (Unit {0})} (h₁ : Follows (hoist_ethertype g.ethertype e.link) e e₁ r₁) where
+  first : Replies (hoist_ethertype g.ethertype e.link (code [] e.facts)) e e₁ r₁
+  first = h₁.on _ e (none e)
 
-then_follows : {f k : Code → Out Code} → Follows f → Follows k → Follows (λ c. f c >>= k)
-then_follows {f} {k} h j = record { on = λ b g. ap (λ (o : Out Code). o >>= k) (h.on b g) ∙ then_on k j b (f (code [] g)) }
+  pub first_refused : {q : Refusal} {k : Emitter} → r₁ ≡ Err q → Replies (or_hoist e.link g e.facts) e k (Err q)
+  unfolding or_hoist
+  first_refused d = bind_refused first d _
 
-follows_bind : (f : Code → Out Code) → Follows f → (o : Out Code) → o >>= (λ c. after c.block (f (code [] c.facts))) ≡ o >>= f
-follows_bind f h (refused r) = refl
-follows_bind f h (done c) = sym (h.on c.block c.facts)
+  module _ {u₁ : Unit {0}} {e₂ : Emitter} {r₂ : Out (Unit {0})} (d₁ : r₁ ≡ Ok u₁) (h₂ : Follows (hoist_l4 V4 g.ip4_proto e₁.link) e₁ e₂ r₂) where
+    second : Replies (hoist_l4 V4 g.ip4_proto e.link (reply_done first d₁).code) e e₂ r₂
+    second = follow (hoist_l4 V4 g.ip4_proto) (reply_done first d₁) h₂
 
--- an answer, and then what follows it
-pub follow : {o : Out Code} {I Y N I₁ Y₁ N₁ I₂ Y₂ N₂ : List ℕ} {s : Patches} {e : Emitted} {r : Emission} (f : Code → Out Code) → Follows f
-    → Went o I Y N s I₁ Y₁ N₁ e → Reply (f (code [] e.facts)) I₁ Y₁ N₁ e.patches I₂ Y₂ N₂ r → Reply (o >>= f) I Y N s I₂ Y₂ N₂ r
-follow {o} f h w q = rw (← follows_bind f h o) (bind_reply w (λ g. f (code [] g)) q)
+    pub second_refused : {q : Refusal} {k : Emitter} → r₂ ≡ Err q → Replies (or_hoist e.link g e.facts) e k (Err q)
+    unfolding or_hoist
+    second_refused d = rw (reply_done first d₁).eq (bind_refused second d _)
 
--- the guards from the IPv6 next header on, and from the IPv4 protocol on
-pub ip6_follows : (L : LinkType) (r : GuardSet) → Follows (hoist_ip6 L r)
-ip6_follows L r = then_follows (known_follows L r.ip6_nh (emit_ip6_l4 L)) (ports_follow L (ready_set r.port_prereqs))
+    module _ {u₂ : Unit {0}} {e₃ : Emitter} {r₃ : Out (Unit {0})} (d₂ : r₂ ≡ Ok u₂) (h₃ : Follows (hoist_l4 V6 g.ip6_nh e₂.link) e₂ e₃ r₃) where
+      third : Replies (hoist_l4 V6 g.ip6_nh e.link (reply_done second d₂).code) e e₃ r₃
+      third = follow (hoist_l4 V6 g.ip6_nh) (reply_done second d₂) h₃
 
-pub ip4_follows : (L : LinkType) (r : GuardSet) → Follows (hoist_ip4 L r)
-ip4_follows L r = then_follows (known_follows L r.ip4_proto (emit_ip4_l4 L)) (ip6_follows L r)
+      pub third_refused : {q : Refusal} {k : Emitter} → r₃ ≡ Err q → Replies (or_hoist e.link g e.facts) e k (Err q)
+      unfolding or_hoist
+      third_refused d = rw ((reply_done first d₁).eq, (reply_done second d₂).eq) (bind_refused third d _)
 
--- one guard after nothing
-module _ (L : LinkType) (g : Facts) {I N : List ℕ} {s : Patches} where
-  pub hoist_unknown : (k : Known) (e : ℕ → Facts → Out Code) → k ≡ Unknown → ReplyFailure (hoist_known L k e (code [] g)) I N s I N (Done (record { patches = s; facts = g }))
-  hoist_unknown k e q = rw q (record { reply = λ Y. unchanged I Y N s g })
-
-  pub hoist_not_ready : (p : Option L4Set) → p ≡ none → ReplyFailure (hoist_ports L p (code [] g)) I N s I N (Done (record { patches = s; facts = g }))
-  hoist_not_ready p q = rw q (record { reply = λ Y. unchanged I Y N s g })
-
-  module _ {I' N' : List ℕ} where
-    pub hoist_is : (k : Known) (e : ℕ → Facts → Out Code) {v : ℕ} {r : Emission} → k ≡ Is v → ReplyFailure (e v g) I N s I' N' r → ReplyFailure (hoist_known L k e (code [] g)) I N s I' N' r
-    hoist_is k e {v} q h = rw (q, after_none (e v g)) h
-
-    pub hoist_ready : (p : Option L4Set) {want : L4Set} {e : Emitted} → p ≡ some want → MadeFailure (port_prereqs L want g) I N s I' N' e
-        → ReplyFailure (hoist_ports L p (code [] g)) I N s I' N' (Done e)
-    hoist_ready p q h = rw q (record { reply = λ Y. record { is = h.made Y } })
+      pub hoisted : {u₃ : Unit {0}} {f : Emitter} → r₃ ≡ Ok u₃ → Follows (hoist_ports e₃.link g.port_prereqs) e₃ f (Ok tt) → Replies (or_hoist e.link g e.facts) e f (Ok tt)
+      unfolding or_hoist
+      hoisted d h =
+          let z = follow (λ L. hoist_ports L g.port_prereqs) (reply_done third d) h in
+          rw ((reply_done first d₁).eq, (reply_done second d₂).eq, (reply_done third d).eq) z

@@ -2,28 +2,52 @@
 // `emit_portrange`, `emit_or_hoist`.
 #![tactic(auto)]
 
-ghost use Rattle.std.specs.Prelude.{◌≡◌, [], ◌∷◌, ◌++◌, cond, ◌+◌, ◌≤◌, ◌<◌, length};
-ghost use Rattle.codegen.specs.declared.Known.TheVariants.{Unknown};
+ghost use Rattle.std.specs.Prelude.{◌≡◌, [], ◌∷◌, None, Some, Ok, ◌+◌, ◌≤◌, length};
 ghost use Rattle.codegen.specs.Facts as F;
-ghost use Rattle.codegen.specs.Block.{half, ld_abs, jeq, jt, skip, op, test};
+ghost use Rattle.codegen.specs.declared.Width.TheVariants.{Half};
+ghost use Rattle.codegen.specs.declared.Op.TheVariants.{LdAbs, LdhInd};
+ghost use Rattle.codegen.specs.declared.Test.TheVariants.{Jeq};
+ghost use Rattle.codegen.specs.declared.Exit.TheVariants.{Skip};
+ghost use Rattle.codegen.specs.declared.Slot.TheVariants.{Jt};
+ghost use Rattle.codegen.specs.declared.Line.TheVariants.{Plain, Branch};
 ghost use Rattle.codegen.specs.Emit as E;
-ghost use Rattle.emit.specs.Grown.{Room, Space, Place, Put, PutFailure, Made, MadeFailure, Reply, ReplyFailure};
-ghost use Rattle.conditions.specs.declared.Mask.TheVariants.{Whole};
+ghost use Rattle.emit.specs.Grown.{Room, Space, Place, Grew, Grows, Replies};
 ghost use Rattle.conditions.specs.Loads as L;
 ghost use Rattle.ports.specs.Hoist as Q;
+ghost use Rattle.ports.specs.Hoist.{Follows};
 
 use ast::{Dir, LinkType};
-use codegen::{Facts, GuardSet, Known, L4Set, Ports};
+use codegen::{Exit, Facts, GuardSet, L4Set, Line, Op, Side, Slot, Test, Width, ready_for};
 use conditions::{
-    Mask, Offset, Shape, Version, check_addr4, check_sides, emit_ethertype, emit_l4,
-    ether_proto_offset, is_raw, learn_proto, net_offset, proto_fact, proto_place,
+    Range, Version, check_addr4, check_sides, emit_ethertype, emit_l4, ether_proto_offset,
+    net_offset,
 };
-use emit::{Emission, Emitted, Patches, ja_skip, need, push, test_failure, test_skip};
+use emit::Emitter;
+use error::Refusal;
+
+// The ethertypes of IPv4 and IPv6.
+const IPV4: u32 = 0x0800;
+
+const IPV6: u32 = 0x86dd;
+
+// The numbers of the protocols TCP and UDP.
+const TCP: u32 = 6;
+
+const UDP: u32 = 17;
+
+// The bits of a fragment's place in an IPv4 header.
+const FRAGMENT: u32 = 0x1fff;
+
+// The bytes of an IPv6 header.
+const HEADER6: u32 = 40;
 
 // ---- the prologue
 
+// The lines that test for a set.
+#[tactic(auto, unfolding(codegen::specs::Emit::l4_set_check))]
 fn l4_len(want: L4Set) -> u8
-    ensures { (result ≡ length (E.l4_set_check want)) × (result ≤ 2) }
+    ensures length { result ≡ length (E.l4_set_check want) }
+    ensures small { result ≤ 2 }
 {
     match want {
         L4Set::One(_) => 1,
@@ -32,495 +56,217 @@ fn l4_len(want: L4Set) -> u8
 }
 
 // A is a protocol of the set.
-fn emit_l4_set_check(insns: &mut [u64], failure: &mut [u16], p: Patches, want: L4Set) -> Patches
-    requires { Space 2 failure.old p p.failure }
-    ensures { PutFailure (E.l4_set_check want) insns.old failure.old p insns.new failure.new result }
+fn emit_l4_set_check(e: &mut Emitter<'_>, want: L4Set)
+    requires { Space 2 e.old }
+    ensures { Grows (E.l4_set_check want) e.old e.new }
 {
     match want {
-        L4Set::One(n) => need(insns, failure, p, n),
+        L4Set::One(n) => e.need(n),
         L4Set::TcpOrUdp => {
-            let q = test_skip(insns, p, 6, 1);
-            need(insns, failure, q, 17)
+            e.add(Line::Branch(Test::Jeq, TCP, Slot::Jt, Exit::Skip(1)));
+            e.need(UDP);
         }
     }
 }
 
 // The protocol byte is of the set.
-fn l4_check(insns: &mut [u64], failure: &mut [u16], p: Patches, off: u32, want: L4Set) -> Patches
-    requires { Space 3 failure.old p p.failure }
-    ensures { PutFailure (E.l4_check off want) insns.old failure.old p insns.new failure.new result }
+fn l4_check(e: &mut Emitter<'_>, version: Version, want: L4Set)
+    requires { Space 3 e.old }
+    ensures { Grows (E.l4_check (E.net_offset e.old.link + L.proto_place version) want) e.old e.new }
 {
-    let q = push(insns, p, 0x30, off);
-    emit_l4_set_check(insns, failure, q, want)
+    let off = net_offset(e.link) + version.proto_place();
+    e.add(Line::Plain(Op::LdAbs(Width::Byte, off)));
+    emit_l4_set_check(e, want);
 }
 
 // No later fragment, and X the header's length.
-fn header4(insns: &mut [u64], failure: &mut [u16], p: Patches, n: u32) -> Patches
-    requires { Space 3 failure.old p p.failure × (n ≤ 16) }
-    ensures { PutFailure (E.header4 n) insns.old failure.old p insns.new failure.new result }
+fn header4(e: &mut Emitter<'_>)
+    requires { Space 3 e.old }
+    ensures { Grows (E.header4 (E.net_offset e.old.link)) e.old e.new }
 {
-    let q = push(insns, p, 0x28, n + 6);
-    let t = test_failure(insns, failure, q, 0x45, 0x1fff, 1);
-    push(insns, t, 0xb1, n)
+    let n = net_offset(e.link);
+    e.add(Line::Plain(Op::LdAbs(Width::Half, n + 6)));
+    e.add(Line::Branch(Test::Jset, FRAGMENT, Slot::Jt, Exit::Leave(Side::Failure)));
+    e.add(Line::Plain(Op::LdxMsh(n)));
 }
 
-// An IPv6 header has 40 bytes.
-fn header6(insns: &mut [u64], p: Patches) -> Patches
-    requires { Place 1 p }
-    ensures { Put E.header6 insns.old p insns.new result }
+// X is the header's length.
+#[tactic(auto, unfolding(codegen::specs::Emit::header6))]
+fn header6(e: &mut Emitter<'_>)
+    requires { Place 1 e.old }
+    ensures { Grows E.header6 e.old e.new }
 {
-    push(insns, p, 0x01, 40)
+    e.add(Line::Plain(Op::LdxImm(HEADER6)));
 }
 
 // What X needs.
-fn header(insns: &mut [u64], failure: &mut [u16], p: Patches, version: Version, n: u32) -> Patches
-    requires { Space 3 failure.old p p.failure × (n ≤ 16) }
-    ensures { PutFailure (L.header version n) insns.old failure.old p insns.new failure.new result }
+fn header(e: &mut Emitter<'_>, version: Version)
+    requires { Space 3 e.old }
+    ensures { Grows (L.header version (E.net_offset e.old.link)) e.old e.new }
 {
     match version {
-        Version::V4 => header4(insns, failure, p, n),
-        Version::V6 => header6(insns, p),
+        Version::V4 => header4(e),
+        Version::V6 => header6(e),
     }
 }
 
 // The protocol and then the header.
-fn path(
-    insns: &mut [u64],
-    failure: &mut [u16],
-    p: Patches,
-    version: Version,
-    n: u32,
-    want: L4Set,
-) -> Patches
-    requires { Space 6 failure.old p p.failure × (n ≤ 16) }
-    ensures { PutFailure (L.path version n want) insns.old failure.old p insns.new failure.new result }
+fn path(e: &mut Emitter<'_>, version: Version, want: L4Set)
+    requires { Space 6 e.old }
+    ensures { Grows (L.path version (E.net_offset e.old.link) want) e.old e.new }
 {
-    let off = n + proto_place(version);
-    let q = l4_check(insns, failure, p, off, want);
-    header(insns, failure, q, version, n)
+    l4_check(e, version, want);
+    header(e, version);
 }
 
 // The ethertype: IPv6 goes d lines ahead, IPv4 falls through.
-fn fork(insns: &mut [u64], failure: &mut [u16], p: Patches, off: u32, d: u8) -> Patches
-    requires { Space 3 failure.old p p.failure }
-    ensures { PutFailure (op (ld_abs half off) ∷ test jeq 0x86dd jt (skip d) ∷ E.need 0x0800 ∷ []) insns.old failure.old p insns.new failure.new result }
+fn fork(e: &mut Emitter<'_>, off: u32, d: u8)
+    requires { Space 3 e.old }
+    ensures { Grows (Plain (LdAbs Half off) ∷ Branch Jeq 0x86dd Jt (Skip d) ∷ E.need 0x0800 ∷ []) e.old e.new }
 {
-    let q = push(insns, p, 0x28, off);
-    let t = test_skip(insns, q, 0x86dd, d);
-    need(insns, failure, t, 0x0800)
+    e.add(Line::Plain(Op::LdAbs(Width::Half, off)));
+    e.add(Line::Branch(Test::Jeq, IPV6, Slot::Jt, Exit::Skip(d)));
+    e.need(IPV4);
 }
 
 // The ethertype is not known: both versions.
-fn dual_path(
-    insns: &mut [u64],
-    failure: &mut [u16],
-    p: Patches,
-    off: u32,
-    n: u32,
-    want: L4Set,
-) -> Patches
-    requires { Space 14 failure.old p p.failure × (n ≤ 16) }
-    ensures { PutFailure (E.dual_path off n want) insns.old failure.old p insns.new failure.new result }
+fn dual_path(e: &mut Emitter<'_>, off: u32, want: L4Set)
+    requires { Space 14 e.old }
+    ensures { Grows (E.dual_path off (E.net_offset e.old.link) want) e.old e.new }
 {
     let len = l4_len(want);
-    let q = fork(insns, failure, p, off, len + 6);
-    let t = path(insns, failure, q, Version::V4, n, want);
-    let u = ja_skip(insns, t, len + 2);
-    let v = l4_check(insns, failure, u, n + 6, want);
-    header6(insns, v)
+    fork(e, off, len + 6);
+    path(e, Version::V4, want);
+    e.add(Line::Jump(Exit::Skip(len + 2)));
+    l4_check(e, Version::V6, want);
+    header6(e);
 }
 
 // An established set of one protocol is a fact of that protocol.
 fn established(facts: Facts, version: Version, set: L4Set) -> Facts
-    ensures { result ≡ F.with_ports (E.learn_set (L.learn_proto version) facts set) (F.ready set) }
+    ensures { result ≡ F.with_ports (E.learn_set (L.learn_proto version) facts set) (Some set) }
 {
-    match set {
-        L4Set::One(n) => {
-            let g = learn_proto(version, facts, n);
-            facts::with_ports(g, facts::ready(set))
-        }
-        L4Set::TcpOrUdp => facts::with_ports(facts, facts::ready(set)),
-    }
+    let learnt = match set {
+        L4Set::One(n) => version.learn_proto(facts, n),
+        L4Set::TcpOrUdp => facts,
+    };
+    learnt.with_ports(Some(set))
 }
 
-// One version, nothing ready: where the protocol is known to be one of the set it is not tested again.
-fn pinned(
-    insns: &mut [u64],
-    failure: &mut [u16],
-    p: Patches,
-    facts: Facts,
-    version: Version,
-    n: u32,
-    want: L4Set,
-) -> Emitted
-    requires { Space 6 failure.old p p.failure × (n ≤ 16) }
-    ensures { MadeFailure (E.established (L.learn_proto version) facts (E.pinned (L.proto_fact version facts) (n + L.proto_place version) want (L.header version n))) insns.old failure.old p insns.new failure.new result }
+// One version: where ports are ready for another set only the protocol is narrowed, and where the protocol is known to be one of the set
+// it is not tested again.
+fn one_version(e: &mut Emitter<'_>, version: Version, want: L4Set)
+    requires { Space 6 e.old }
+    ensures { Grew (Q.version_for e.old.link version want e.old.facts) e.old e.new }
 {
-    let known = proto_fact(version, facts);
-    match known {
-        Known::Is(proto) => {
-            if facts::contains(want, proto) {
-                let q = header(insns, failure, p, version, n);
-                let g = established(facts, version, L4Set::One(proto));
-                return Emitted {
-                    patches: q,
-                    facts: g,
-                };
-            }
-            let q = path(insns, failure, p, version, n, want);
-            let g = established(facts, version, want);
-            Emitted {
-                patches: q,
-                facts: g,
-            }
+    let set = match (e.facts.ports_ready, version.proto_fact(e.facts)) {
+        (Some(_), _) => {
+            l4_check(e, version, want);
+            want
         }
-        Known::Unknown => {
-            let q = path(insns, failure, p, version, n, want);
-            let g = established(facts, version, want);
-            Emitted {
-                patches: q,
-                facts: g,
-            }
+        (None, Some(proto)) if want.contains(proto) => {
+            header(e, version);
+            L4Set::One(proto)
         }
-    }
-}
-
-// One version, ready for another set: only the protocol is tested.
-fn narrowed(
-    insns: &mut [u64],
-    failure: &mut [u16],
-    p: Patches,
-    facts: Facts,
-    version: Version,
-    n: u32,
-    want: L4Set,
-) -> Emitted
-    requires { Space 6 failure.old p p.failure × (n ≤ 16) }
-    ensures { MadeFailure (E.established (L.learn_proto version) facts (record { block = E.l4_check (n + L.proto_place version) want; set = want })) insns.old failure.old p insns.new failure.new result }
-{
-    let q = l4_check(insns, failure, p, n + proto_place(version), want);
-    let g = established(facts, version, want);
-    Emitted {
-        patches: q,
-        facts: g,
-    }
-}
-
-// One version: where ports are ready for another set only the protocol is narrowed.
-fn one_version(
-    insns: &mut [u64],
-    failure: &mut [u16],
-    p: Patches,
-    facts: Facts,
-    version: Version,
-    n: u32,
-    want: L4Set,
-) -> Emitted
-    requires { Space 6 failure.old p p.failure × (n ≤ 16) }
-    ensures { MadeFailure (E.established (L.learn_proto version) facts (E.version (F.ready_set facts.ports_ready) (L.proto_fact version facts) (n + L.proto_place version) want (L.header version n))) insns.old failure.old p insns.new failure.new result }
-{
-    let ports = facts.ports_ready;
-    match ports {
-        Ports::NotReady => pinned(insns, failure, p, facts, version, n, want),
-        Ports::ReadyOne(_) => narrowed(insns, failure, p, facts, version, n, want),
-        Ports::ReadyTcpOrUdp => narrowed(insns, failure, p, facts, version, n, want),
-    }
+        (None, _) => {
+            path(e, version, want);
+            want
+        }
+    };
+    e.facts = established(e.facts, version, set);
 }
 
 // Neither version is known.
-fn dual(
-    link: LinkType,
-    insns: &mut [u64],
-    failure: &mut [u16],
-    p: Patches,
-    facts: Facts,
-    want: L4Set,
-) -> Emitted
-    requires { Space 14 failure.old p p.failure }
-    ensures { MadeFailure (E.dual (E.ether_proto_offset link) (E.net_offset link) want facts) insns.old failure.old p insns.new failure.new result }
+fn dual(e: &mut Emitter<'_>, want: L4Set)
+    requires { Space 14 e.old }
+    ensures { Grew (E.dual (E.ether_proto_offset e.old.link) (E.net_offset e.old.link) want e.old.facts) e.old e.new }
 {
-    let offset = ether_proto_offset(link);
-    match offset {
-        Offset::Absent => Emitted {
-            patches: p,
-            facts: facts,
-        },
-        Offset::At(off) => {
-            let n = net_offset(link);
-            let q = dual_path(insns, failure, p, off, n, want);
-            let g = facts::with_ports(facts, facts::ready(want));
-            Emitted {
-                patches: q,
-                facts: g,
-            }
-        }
+    if let Some(off) = ether_proto_offset(e.link) {
+        dual_path(e, off, want);
+        e.facts = e.facts.with_ports(Some(want));
     }
 }
 
-pub fn emit_port_prereqs_set(
-    link: LinkType,
-    insns: &mut [u64],
-    failure: &mut [u16],
-    p: Patches,
-    facts: Facts,
-    want: L4Set,
-) -> Emitted
-    requires { Space 14 failure.old p p.failure }
-    ensures { MadeFailure (E.port_prereqs link want facts) insns.old failure.old p insns.new failure.new result }
+// What the test of a port needs: a protocol of the set, and X the header's length.
+pub fn emit_port_prereqs_set(e: &mut Emitter<'_>, want: L4Set)
+    requires { Space 14 e.old }
+    ensures { Grew (E.port_prereqs e.old.link want e.old.facts) e.old e.new }
 {
-    let ports = facts.ports_ready;
-    if facts::ready_for(ports, want) {
-        return Emitted {
-            patches: p,
-            facts: facts,
-        };
+    if ready_for(e.facts.ports_ready, want) {
+        return;
     }
-    let ethertype = facts.ethertype;
-    if facts::holds(ethertype, 0x0800) {
-        return one_version(
-            insns,
-            failure,
-            p,
-            facts,
-            Version::V4,
-            net_offset(link),
-            want,
-        );
+    match e.facts.ethertype {
+        Some(IPV4) => one_version(e, Version::V4, want),
+        Some(IPV6) => one_version(e, Version::V6, want),
+        _ => dual(e, want),
     }
-    if facts::holds(ethertype, 0x86dd) {
-        return one_version(
-            insns,
-            failure,
-            p,
-            facts,
-            Version::V6,
-            net_offset(link),
-            want,
-        );
-    }
-    dual(link, insns, failure, p, facts, want)
 }
 
 // ---- conditions
 
-pub fn emit_port(
-    link: LinkType,
-    insns: &mut [u64],
-    success: &mut [u16],
-    failure: &mut [u16],
-    p: Patches,
-    facts: Facts,
-    dir: Dir,
-    want: L4Set,
-    port: u32,
-) -> Emitted
-    requires { Room 20 success.old failure.old p }
-    ensures { Made (Q.ported_by link want (E.check_loads dir port (L.load 0x48 (E.net_offset link) Whole) (L.load 0x48 (E.net_offset link + 2) Whole)) facts) insns.old success.old failure.old p insns.new success.new failure.new result }
+// A port, by direction.
+pub fn emit_port(e: &mut Emitter<'_>, dir: Dir, want: L4Set, port: u32)
+    requires { Room 20 e.old }
+    ensures { Grew (Q.ported_by e.old.link want (E.check_loads dir port (L.load (LdhInd (E.net_offset e.old.link)) None) (L.load (LdhInd (E.net_offset e.old.link + 2)) None)) e.old.facts) e.old e.new }
 {
-    let e = emit_port_prereqs_set(link, insns, failure, p, facts, want);
-    let q = e.patches;
-    let g = e.facts;
-    let n = net_offset(link);
-    let t = check_addr4(
-        insns,
-        success,
-        failure,
-        q,
-        dir,
-        0x48,
-        n,
-        n + 2,
-        Mask::Whole,
-        port,
-    );
-    Emitted {
-        patches: t,
-        facts: g,
-    }
+    emit_port_prereqs_set(e, want);
+    let n = net_offset(e.link);
+    check_addr4(e, dir, Op::LdhInd(n), Op::LdhInd(n + 2), None, port);
 }
 
-pub fn emit_portrange(
-    link: LinkType,
-    insns: &mut [u64],
-    success: &mut [u16],
-    failure: &mut [u16],
-    p: Patches,
-    facts: Facts,
-    dir: Dir,
-    want: L4Set,
-    lo: u32,
-    hi: u32,
-) -> Emitted
-    requires { Room 21 success.old failure.old p }
-    ensures { Made (Q.ported_by link want (E.check_blocks dir (E.check_range lo hi (E.net_offset link)) (E.check_range lo hi (E.net_offset link + 2))) facts) insns.old success.old failure.old p insns.new success.new failure.new result }
+// A range of ports, by direction.
+// Apart from `emit_port`: with either, the two tests of a port are loads whose first succeeds, and those of a range are blocks.
+pub fn emit_portrange(e: &mut Emitter<'_>, dir: Dir, want: L4Set, lo: u32, hi: u32)
+    requires { Room 21 e.old }
+    ensures { Grew (Q.ported_by e.old.link want (E.check_blocks dir (E.check_range lo hi (E.net_offset e.old.link)) (E.check_range lo hi (E.net_offset e.old.link + 2))) e.old.facts) e.old e.new }
 {
-    let e = emit_port_prereqs_set(link, insns, failure, p, facts, want);
-    let q = e.patches;
-    let g = e.facts;
-    let n = net_offset(link);
-    let shape = Shape::Range(lo, hi);
-    let t = check_sides(insns, success, failure, q, dir, shape, n, n + 2);
-    Emitted {
-        patches: t,
-        facts: g,
-    }
+    emit_port_prereqs_set(e, want);
+    let n = net_offset(e.link);
+    check_sides(e, dir, &Range { low: lo, high: hi }, n, n + 2);
 }
 
 // ---- hoisting
 
-fn hoist_ethertype(
-    link: LinkType,
-    insns: &mut [u64],
-    failure: &mut [u16],
-    p: Patches,
-    facts: Facts,
-    ethertype: Known,
-) -> Emission
-    requires { Space 2 failure.old p p.failure }
-    ensures { ReplyFailure (E.hoist_known link (cond (E.is_raw link) Unknown ethertype) (E.emit_ethertype link) (E.code [] facts)) insns.old failure.old p insns.new failure.new result }
+// An ethertype, but none on a raw link.
+fn hoist_ethertype(e: &mut Emitter<'_>, ethertype: Option<u32>) -> Result<(), Refusal>
+    requires { Space 2 e.old }
+    ensures { Follows (Q.hoist_ethertype ethertype e.old.link) e.old e.new result }
 {
-    if is_raw(link) {
-        return Emission::Done(Emitted {
-            patches: p,
-            facts: facts,
-        });
-    }
     match ethertype {
-        Known::Unknown => Emission::Done(Emitted {
-            patches: p,
-            facts: facts,
-        }),
-        Known::Is(v) => emit_ethertype(link, insns, failure, p, facts, v),
+        Some(et) if e.link != LinkType::RawIp => emit_ethertype(e, et),
+        _ => Ok(()),
     }
 }
 
-fn hoist_l4(
-    link: LinkType,
-    insns: &mut [u64],
-    failure: &mut [u16],
-    p: Patches,
-    facts: Facts,
-    version: Version,
-    proto: Known,
-) -> Emission
-    requires { Space 4 failure.old p p.failure }
-    ensures { ReplyFailure (E.hoist_known link proto (L.emit_version link version) (E.code [] facts)) insns.old failure.old p insns.new failure.new result }
+// A protocol.
+fn hoist_l4(e: &mut Emitter<'_>, version: Version, proto: Option<u32>) -> Result<(), Refusal>
+    requires { Space 4 e.old }
+    ensures { Follows (Q.hoist_l4 version proto e.old.link) e.old e.new result }
 {
     match proto {
-        Known::Unknown => Emission::Done(Emitted {
-            patches: p,
-            facts: facts,
-        }),
-        Known::Is(n) => emit_l4(link, insns, failure, p, facts, version, n),
+        Some(n) => emit_l4(e, version, n),
+        None => Ok(()),
     }
 }
 
-fn hoist_ports(
-    link: LinkType,
-    insns: &mut [u64],
-    failure: &mut [u16],
-    p: Patches,
-    facts: Facts,
-    ports: Ports,
-) -> Emission
-    requires { Space 14 failure.old p p.failure }
-    ensures { ReplyFailure (E.hoist_ports link (F.ready_set ports) (E.code [] facts)) insns.old failure.old p insns.new failure.new result }
+// What the ports need.
+fn hoist_ports(e: &mut Emitter<'_>, ports: Option<L4Set>)
+    requires { Space 14 e.old }
+    ensures { Follows (E.hoist_ports e.old.link ports) e.old e.new (Ok tt) }
 {
-    match ports {
-        Ports::NotReady => Emission::Done(Emitted {
-            patches: p,
-            facts: facts,
-        }),
-        Ports::ReadyOne(n) => Emission::Done(emit_port_prereqs_set(
-            link,
-            insns,
-            failure,
-            p,
-            facts,
-            L4Set::One(n),
-        )),
-        Ports::ReadyTcpOrUdp => Emission::Done(emit_port_prereqs_set(
-            link,
-            insns,
-            failure,
-            p,
-            facts,
-            L4Set::TcpOrUdp,
-        )),
-    }
-}
-
-// The next header and the ports. Where no ports are required, as in most trees, no answer of a call is copied.
-fn hoist_ip6(
-    link: LinkType,
-    insns: &mut [u64],
-    failure: &mut [u16],
-    p: Patches,
-    facts: Facts,
-    guards: GuardSet,
-) -> Emission
-    requires { Space 18 failure.old p p.failure }
-    ensures { ReplyFailure (Q.hoist_ip6 link guards (E.code [] facts)) insns.old failure.old p insns.new failure.new result }
-{
-    let proto = guards.ip6_nh;
-    match hoist_l4(link, insns, failure, p, facts, Version::V6, proto) {
-        Emission::Refused(r) => Emission::Refused(r),
-        Emission::Done(e) => {
-            let q = e.patches;
-            let g = e.facts;
-            let ports = guards.port_prereqs;
-            match ports {
-                Ports::NotReady => Emission::Done(Emitted {
-                    patches: q,
-                    facts: g,
-                }),
-                _ => hoist_ports(link, insns, failure, q, g, ports),
-            }
-        }
-    }
-}
-
-fn hoist_ip4(
-    link: LinkType,
-    insns: &mut [u64],
-    failure: &mut [u16],
-    p: Patches,
-    facts: Facts,
-    guards: GuardSet,
-) -> Emission
-    requires { Space 22 failure.old p p.failure }
-    ensures { ReplyFailure (Q.hoist_ip4 link guards (E.code [] facts)) insns.old failure.old p insns.new failure.new result }
-{
-    let proto = guards.ip4_proto;
-    match hoist_l4(link, insns, failure, p, facts, Version::V4, proto) {
-        Emission::Refused(r) => Emission::Refused(r),
-        Emission::Done(e) => {
-            let q = e.patches;
-            let g = e.facts;
-            hoist_ip6(link, insns, failure, q, g, guards)
-        }
+    if let Some(want) = ports {
+        emit_port_prereqs_set(e, want);
     }
 }
 
 // The guards that both sides of an or require, emitted once in front of it.
-pub fn emit_or_hoist(
-    link: LinkType,
-    insns: &mut [u64],
-    failure: &mut [u16],
-    p: Patches,
-    facts: Facts,
-    guards: GuardSet,
-) -> Emission
-    requires { Space 24 failure.old p p.failure }
-    ensures { ReplyFailure (E.or_hoist link guards facts) insns.old failure.old p insns.new failure.new result }
+pub fn emit_or_hoist(e: &mut Emitter<'_>, guards: GuardSet) -> Result<(), Refusal>
+    requires { Space 24 e.old }
+    ensures { Replies (E.or_hoist e.old.link guards e.old.facts) e.old e.new result }
 {
-    let ethertype = guards.ethertype;
-    match hoist_ethertype(link, insns, failure, p, facts, ethertype) {
-        Emission::Refused(r) => Emission::Refused(r),
-        Emission::Done(e) => {
-            let q = e.patches;
-            let g = e.facts;
-            hoist_ip4(link, insns, failure, q, g, guards)
-        }
-    }
+    hoist_ethertype(e, guards.ethertype)?;
+    hoist_l4(e, Version::V4, guards.ip4_proto)?;
+    hoist_l4(e, Version::V6, guards.ip6_nh)?;
+    hoist_ports(e, guards.port_prereqs);
+    Ok(())
 }

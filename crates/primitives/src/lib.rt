@@ -1,206 +1,74 @@
-// The condition of a record: codegen.rs `emit_primitive`.
+// The lines of a condition: codegen.rs `emit_primitive`.
 #![tactic(auto)]
 
 ghost use Rattle.std.specs.Prelude.{◌≡◌};
+ghost use Rattle.ast.specs.declared.Primitive.TheVariants.{Protocol};
 ghost use Rattle.codegen.specs.Emit as E;
-ghost use Rattle.emit.specs.Grown.{Room, Space, Reply, ReplyFailure};
-ghost use Rattle.reader.specs.Reader.{leaf_at, LeafHere};
-ghost use Rattle.primitives.specs.Kinds as K;
+ghost use Rattle.emit.specs.Grown.{Room, Space, Replies};
 
-use ast::LinkType;
-use codegen::{Facts, GuardSet, Known};
-use conditions::{Mask, Version, emit_net, emit_net6};
-use emit::{Emission, Emitted, Patches};
-use facts::SetResult;
+use ast::{Primitive, Proto};
+use bpf::{be_u16, be_u32};
+use conditions::{
+    Version, emit_ethertype, emit_ip_broadcast, emit_ip_multicast, emit_ip6_multicast, emit_l4,
+    emit_net, emit_net6,
+};
+use emit::Emitter;
+use error::Refusal;
+use ether::{emit_ether_host, emit_ether_multicast};
+use facts::{l4set_for, protocol_guards};
 use ports::{emit_port, emit_portrange};
-
-// `emit_proto`, by the protocol's row.
-fn emit_proto(
-    link: LinkType,
-    insns: &mut [u64],
-    failure: &mut [u16],
-    p: Patches,
-    facts: Facts,
-    row: GuardSet,
-) -> Emission
-    requires { Space 4 failure.old p p.failure }
-    ensures { ReplyFailure (K.guards_emit link row facts) insns.old failure.old p insns.new failure.new result }
-{
-    let ip4 = row.ip4_proto;
-    match ip4 {
-        Known::Is(n) => conditions::emit_l4(link, insns, failure, p, facts, Version::V4, n),
-        Known::Unknown => {
-            let ip6 = row.ip6_nh;
-            match ip6 {
-                Known::Is(n) => conditions::emit_l4(link, insns, failure, p, facts, Version::V6, n),
-                Known::Unknown => {
-                    let ethertype = row.ethertype;
-                    match ethertype {
-                        Known::Is(v) => conditions::emit_ethertype(
-                            link, insns, failure, p, facts, v,
-                        ),
-                        Known::Unknown => Emission::Done(Emitted {
-                            patches: p,
-                            facts: facts,
-                        }),
-                    }
-                }
-            }
-        }
-    }
-}
 
 // A host is tested as a net with this prefix.
 const HOST_PREFIX: u8 = 128;
 
-// The prefix of an IPv6 address by its kind.
-fn prefix_of(tree: &[u8], i: usize, kind: u8) -> u8
-    requires { LeafHere tree.now i }
-    ensures { result ≡ K.prefix_of tree.now i kind }
+// `emit_proto`, by the protocol's row.
+#[tactic(auto, unfolding(codegen::specs::Emit::emit_primitive, codegen::specs::Guards::primitive_guards))]
+fn emit_proto(e: &mut Emitter<'_>, protocol: Proto) -> Result<(), Refusal>
+    requires { Space 4 e.old }
+    ensures { Replies (E.emit_primitive e.old.link (Protocol protocol) e.old.facts) e.old e.new result }
 {
-    if kind == 12 {
-        return HOST_PREFIX;
-    }
-    reader::byte_at(tree, i, 3)
-}
-
-// Kinds 11 to 14.
-fn emit_address(
-    tree: &[u8],
-    i: usize,
-    kind: u8,
-    link: LinkType,
-    insns: &mut [u64],
-    success: &mut [u16],
-    failure: &mut [u16],
-    p: Patches,
-    facts: Facts,
-) -> Emission
-    requires { LeafHere tree.now i × K.Address tree.now i kind × Room 37 success.old failure.old p }
-    ensures { Reply (E.emit_primitive link (leaf_at tree.now i) facts) insns.old success.old failure.old p insns.new success.new failure.new result }
-{
-    let dir = reader::direction(tree, i);
-    match kind {
-        11 => {
-            let k = reader::word_at(tree, i, 8);
-            emit_net(link, insns, success, failure, p, facts, dir, Mask::Whole, k)
-        }
-        13 => {
-            let m = reader::word_at(tree, i, 12);
-            let k = reader::word_at(tree, i, 8) & m;
-            let mask = Mask::Under(m);
-            emit_net(link, insns, success, failure, p, facts, dir, mask, k)
-        }
-        _ => {
-            let segments = reader::segments_at(tree, i);
-            let prefix = prefix_of(tree, i, kind);
-            emit_net6(
-                link, insns, success, failure, p, facts, dir, prefix, segments,
-            )
-        }
+    let row = protocol_guards(protocol);
+    match (row.ip4_proto, row.ip6_nh, row.ethertype) {
+        (Some(n), _, _) => emit_l4(e, Version::V4, n),
+        (None, Some(n), _) => emit_l4(e, Version::V6, n),
+        (None, None, Some(ethertype)) => emit_ethertype(e, ethertype),
+        // No row is without an ethertype.
+        (None, None, None) => Ok(()),
     }
 }
 
-// Kinds 15 and 16.
-fn emit_ports(
-    tree: &[u8],
-    i: usize,
-    kind: u8,
-    link: LinkType,
-    insns: &mut [u64],
-    success: &mut [u16],
-    failure: &mut [u16],
-    p: Patches,
-    facts: Facts,
-) -> Emission
-    requires { LeafHere tree.now i × K.PortKind tree.now i kind × Room 37 success.old failure.old p }
-    ensures { Reply (E.emit_primitive link (leaf_at tree.now i) facts) insns.old success.old failure.old p insns.new success.new failure.new result }
+#[tactic(auto, unfolding(codegen::specs::Emit::emit_primitive, codegen::specs::Emit::check_mac, codegen::specs::Emit::ported))]
+pub fn emit_primitive(e: &mut Emitter<'_>, p: Primitive) -> Result<(), Refusal>
+    requires { Room 37 e.old }
+    ensures { Replies (E.emit_primitive e.old.link p e.old.facts) e.old e.new result }
 {
-    let protocol = reader::byte_at(tree, i, 2);
-    match facts::l4set_for(protocol) {
-        SetResult::Refused(r) => Emission::Refused(r),
-        SetResult::Set(want) => {
-            let dir = reader::direction(tree, i);
-            let lo = reader::half_at(tree, i, 4) as u32;
-            if kind == 15 {
-                let e = emit_port(link, insns, success, failure, p, facts, dir, want, lo);
-                return Emission::Done(e);
-            }
-            let hi = reader::half_at(tree, i, 6) as u32;
-            let e = emit_portrange(link, insns, success, failure, p, facts, dir, want, lo, hi);
-            Emission::Done(e)
+    match p {
+        Primitive::Protocol(protocol) => emit_proto(e, protocol),
+        Primitive::Host4(dir, address) => emit_net(e, dir, None, address),
+        Primitive::Host6(dir, address) => emit_net6(e, dir, HOST_PREFIX, address),
+        Primitive::Net(dir, address, mask) => emit_net(e, dir, Some(mask), address & mask),
+        Primitive::Net6(dir, prefix, address) => emit_net6(e, dir, prefix, address),
+        Primitive::Port(dir, protocol, port) => {
+            let want = l4set_for(protocol)?;
+            emit_port(e, dir, want, u32::from(port));
+            Ok(())
         }
-    }
-}
-
-// Kinds 10 and 18 to 24.
-fn emit_simple(
-    tree: &[u8],
-    i: usize,
-    kind: u8,
-    link: LinkType,
-    insns: &mut [u64],
-    failure: &mut [u16],
-    p: Patches,
-    facts: Facts,
-) -> Emission
-    requires { LeafHere tree.now i × K.Simple tree.now i kind × Space 37 failure.old p p.failure }
-    ensures { ReplyFailure (E.emit_primitive link (leaf_at tree.now i) facts) insns.old failure.old p insns.new failure.new result }
-{
-    match kind {
-        10 => {
-            let protocol = reader::byte_at(tree, i, 2);
-            let small = reader::byte_at(tree, i, 3);
-            let row = facts::protocol_guards(protocol, small);
-            emit_proto(link, insns, failure, p, facts, row)
+        Primitive::PortRange(dir, protocol, low, high) => {
+            let want = l4set_for(protocol)?;
+            emit_portrange(e, dir, want, u32::from(low), u32::from(high));
+            Ok(())
         }
-        18 => conditions::emit_ethertype(
-            link,
-            insns,
-            failure,
-            p,
-            facts,
-            reader::half_at(tree, i, 4) as u32,
-        ),
-        19 => ether::emit_ether_multicast(link, insns, failure, p, facts),
-        20 => conditions::emit_ip_broadcast(link, insns, failure, p, facts),
-        21 => conditions::emit_ip_multicast(link, insns, failure, p, facts),
-        22 => conditions::emit_ip6_multicast(link, insns, failure, p, facts),
-        23 => {
-            let n = reader::byte_at(tree, i, 3) as u32;
-            conditions::emit_l4(link, insns, failure, p, facts, Version::V4, n)
+        Primitive::EtherHost(dir, address) => {
+            let four = be_u32(&address, 0);
+            let two = be_u16(&address, 4);
+            emit_ether_host(e, dir, four, u32::from(two))
         }
-        _ => {
-            let n = reader::byte_at(tree, i, 3) as u32;
-            conditions::emit_l4(link, insns, failure, p, facts, Version::V6, n)
-        }
-    }
-}
-
-// The condition at record i.
-pub fn emit_primitive(
-    tree: &[u8],
-    i: usize,
-    link: LinkType,
-    insns: &mut [u64],
-    success: &mut [u16],
-    failure: &mut [u16],
-    p: Patches,
-    facts: Facts,
-) -> Emission
-    requires { LeafHere tree.now i × Room 37 success.old failure.old p }
-    ensures { Reply (E.emit_primitive link (leaf_at tree.now i) facts) insns.old success.old failure.old p insns.new success.new failure.new result }
-{
-    let kind = reader::byte_at(tree, i, 0);
-    match kind {
-        11..=14 => emit_address(tree, i, kind, link, insns, success, failure, p, facts),
-        15..=16 => emit_ports(tree, i, kind, link, insns, success, failure, p, facts),
-        17 => {
-            let dir = reader::direction(tree, i);
-            let four = reader::word_at(tree, i, 8);
-            let two = reader::half_at(tree, i, 12) as u32;
-            ether::emit_ether_host(link, insns, success, failure, p, facts, dir, four, two)
-        }
-        _ => emit_simple(tree, i, kind, link, insns, failure, p, facts),
+        Primitive::EtherProto(ethertype) => emit_ethertype(e, u32::from(ethertype)),
+        Primitive::EtherMulticast => emit_ether_multicast(e),
+        Primitive::IpBroadcast => emit_ip_broadcast(e),
+        Primitive::IpMulticast => emit_ip_multicast(e),
+        Primitive::Ip6Multicast => emit_ip6_multicast(e),
+        Primitive::IpProtoChain(n) => emit_l4(e, Version::V4, u32::from(n)),
+        Primitive::Ip6ProtoChain(n) => emit_l4(e, Version::V6, u32::from(n)),
     }
 }

@@ -1,5 +1,20 @@
-use Rattle.conditions.proofs.Sides.{loaded}
+use Rattle.std.proofs.Common.{append_assoc}
+use Rattle.codegen.specs.Emit.{check_loads}
+use Rattle.emit.proofs.Grow.{grows_then}
 use Rattle.conditions.proofs.check_addr4.Goals as goal
 
-pub returns : goal.returns
-returns c = let a = c.args in loaded a.dir a.k a.code a.src a.dst c.last_place-last.result a.mask c.last_place-last.ensures c.check_first-q.ensures c.check_load.ensures
+pub returns-in-Src : goal.returns-in-Src
+unfolding check_loads
+returns-in-Src c = rw c.in-Src.is c.check_load.ensures
+
+pub returns-in-Dst : goal.returns-in-Dst
+unfolding check_loads
+returns-in-Dst c = rw c.in-Dst.is c.check_load-in-Dst.ensures
+
+pub returns-in-SrcAndDst : goal.returns-in-SrcAndDst
+unfolding check_loads
+returns-in-SrcAndDst c = rw c.in-SrcAndDst.is (rw append_assoc at (grows_then c.check_load-in-SrcAndDst.ensures c.check_load-in-SrcAndDst-2.ensures))
+
+pub returns-in-SrcOrDst : goal.returns-in-SrcOrDst
+unfolding check_loads
+returns-in-SrcOrDst c = rw c.in-SrcOrDst.is (grows_then c.push_load.ensures (grows_then c.add.ensures c.check_load-in-SrcOrDst.ensures))

@@ -1,5 +1,5 @@
-use Rattle.emit.proofs.Grow.{then_failure}
+use Rattle.emit.proofs.Grow.{grows_then}
 use Rattle.conditions.proofs.check_load.Goals as goal
 
 pub returns : goal.returns
-returns c = then_failure c.push_load-q.ensures c.need.ensures
+returns c = grows_then c.push_load.ensures c.need.ensures

@@ -1,46 +1,58 @@
-use native.Mathlib.Omega.{arith}
-use mathlib.Core.Path.{refl}
-use Rattle.emit.proofs.Grow.{then, sized}
-use Rattle.emit.proofs.Settling.{failure_below}
+use Rattle.std.proofs.Common.{◌+◌, refl, arith}
+use Rattle.codegen.specs.declared.Side.TheVariants.{Failure}
 use Rattle.codegen.specs.Emit.{check_blocks}
-use Rattle.conditions.proofs.Lengths.{tested_size, most_small, tried}
-use Rattle.conditions.specs.Loads.{most}
+use Rattle.emit.proofs.Grow.{sized, grows_then, room_left}
+use Rattle.emit.proofs.Settling.{opened, otherwise_size, tried_ok, tried_grew}
 use Rattle.conditions.proofs.check_sides.Goals as goal
 
-pub check_shape-requires-in-SrcAndDst : goal.check_shape-requires-in-SrcAndDst
-check_shape-requires-in-SrcAndDst c = let a = c.args in
-    let p = c.requires in
-    let z = sized _ (tested_size a.shape a.src) (c.check_shape-q.ensures.grew a.success.now) in
-    omega (arith, c.check_shape-q.auto)
+pub check-requires-in-SrcAndDst-2-clause-room : goal.check-requires-in-SrcAndDst-2-clause-room
+check-requires-in-SrcAndDst-2-clause-room g c =
+    let h = c.check-in-SrcAndDst.ensures in
+    let z = room_left g.C.Check.most {k = g.C.Check.most} (omega arith) c.requires.room (sized _ h.short h.lines) in
+    record { insns = z.insns; writings = z.writings; failures = z.failures }
 
-pub otherwise-settled-requires : goal.otherwise-settled-requires
-otherwise-settled-requires c = let a = c.args in
-    let p = c.requires in
-    let g = c.check_shape-q-in-SrcOrDst.ensures.grew a.success.now in
-    let z = sized _ (tested_size a.shape a.src) g in
-    (omega (arith, c.check_shape-q-in-SrcOrDst.auto), omega arith, omega (arith, c.check_shape-q-in-SrcOrDst.auto), failure_below g (omega arith))
+pub otherwise-requires-clause-room : goal.otherwise-requires-clause-room
+otherwise-requires-clause-room g c =
+    let h = c.check-in-SrcOrDst.ensures in
+    room_left g.C.Check.most (omega arith) c.requires.room (sized _ h.short h.lines)
 
-pub check_shape-requires-in-SrcOrDst : goal.check_shape-requires-in-SrcOrDst
-check_shape-requires-in-SrcOrDst c = let a = c.args in
-    let p = c.requires in
-    let z = (tried (most a.shape) (tested_size a.shape a.src) (most_small a.shape) c.check_shape-q-in-SrcOrDst.ensures c.otherwise-settled.ensures refl (omega arith)).size in
-    omega (arith, c.check_shape-q-in-SrcOrDst.auto, c.otherwise-settled.auto)
+pub otherwise-requires-clause-open : goal.otherwise-requires-clause-open
+otherwise-requires-clause-open g c =
+    let h = c.check-in-SrcOrDst.ensures in
+    let z = room_left g.C.Check.most {k = 1} (omega arith) c.requires.room (sized _ h.short h.lines) in
+    opened Failure 0 h.lines (omega (arith, c.requires.room)) (omega (arith, z.failures)) (omega (arith, z.insns))
+
+pub unwrap-requires : goal.unwrap-requires
+unwrap-requires g c =
+    let h = c.check-in-SrcOrDst.ensures in
+    let k = g.met.C.Check.few in
+    rw (tried_ok h.lines (omega (arith, h.short, k)) c.otherwise.ensures (omega (arith, c.requires.room))) refl
+
+pub check-requires-in-SrcOrDst-2-clause-room : goal.check-requires-in-SrcOrDst-2-clause-room
+check-requires-in-SrcOrDst-2-clause-room g c =
+    let h = c.check-in-SrcOrDst.ensures in
+    let k = g.met.C.Check.few in
+    let m = g.C.Check.most in
+    let z = tried_grew h.lines (omega (arith, h.short, k)) c.otherwise.ensures (omega (arith, c.requires.room)) in
+    let y = room_left (m + 1) {k = m} (omega arith) c.requires.room (sized (m + 1) (otherwise_size m _ h.short) z) in
+    record { insns = y.insns; writings = y.writings; failures = y.failures }
 
 pub returns-in-Src : goal.returns-in-Src
 unfolding check_blocks
-returns-in-Src c = rw c.in-Src.is (c.check_shape.ensures.grew _)
+returns-in-Src g c = rw c.in-Src.is c.check.ensures.lines
 
 pub returns-in-Dst : goal.returns-in-Dst
 unfolding check_blocks
-returns-in-Dst c = rw c.in-Dst.is (c.check_shape-in-Dst.ensures.grew _)
+returns-in-Dst g c = rw c.in-Dst.is c.check-in-Dst.ensures.lines
 
 pub returns-in-SrcAndDst : goal.returns-in-SrcAndDst
 unfolding check_blocks
-returns-in-SrcAndDst c = rw c.in-SrcAndDst.is (then (c.check_shape-q.ensures.grew _) (c.check_shape-in-SrcAndDst.ensures.grew _))
+returns-in-SrcAndDst g c = rw c.in-SrcAndDst.is (grows_then c.check-in-SrcAndDst.ensures.lines c.check-in-SrcAndDst-2.ensures.lines)
 
 pub returns-in-SrcOrDst : goal.returns-in-SrcOrDst
 unfolding check_blocks
-returns-in-SrcOrDst c = let a = c.args in
-    let p = c.requires in
-    let z = tried (most a.shape) (tested_size a.shape a.src) (most_small a.shape) c.check_shape-q-in-SrcOrDst.ensures c.otherwise-settled.ensures refl (omega arith) in
-    rw c.in-SrcOrDst.is (then z.grew (c.check_shape-in-SrcOrDst.ensures.grew _))
+returns-in-SrcOrDst g c =
+    let h = c.check-in-SrcOrDst.ensures in
+    let k = g.met.C.Check.few in
+    let z = tried_grew h.lines (omega (arith, h.short, k)) c.otherwise.ensures (omega (arith, c.requires.room)) in
+    rw c.in-SrcOrDst.is (grows_then (rw h.lines.facts at z) c.check-in-SrcOrDst-2.ensures.lines)

@@ -1,28 +1,25 @@
-use native.Mathlib.Omega.{arith}
-use Prim.Native.Nat.{ℕ, ◌+◌}
-use mathlib.Core.List.{[]}
-use Rattle.codegen.specs.Block.{Block, word}
-use Rattle.codegen.specs.Emit.{net_offset, check, emit_primitive}
-use Rattle.emit.proofs.Outcome.{reply_done}
-use Rattle.conditions.proofs.Sizes.{ethertype_size}
-use Rattle.conditions.proofs.Starts.{guarded_refused, guarded_grew}
+use Rattle.std.proofs.Common.{ℕ, ◌+◌, refl, arith}
+use Rattle.std.proofs.lemmas.Result.{err_from_is_err_and}
+use Rattle.codegen.specs.declared.Width.TheVariants.{Word}
+use Rattle.codegen.specs.Emit.{check, emit_primitive}
+use Rattle.emit.proofs.Grow.{space_left}
+use Rattle.conditions.proofs.Starts.{ethertype_size, guarded_refused, guarded_grew}
 use Rattle.conditions.proofs.emit_ip_broadcast.Goals as goal
 
-abbrev block : ℕ → Block
-block n = check word (n + 16) 0xffff_ffff
-
-pub check_word-t-requires : goal.check_word-t-requires
-check_word-t-requires c = let a = c.args in
-    let p = c.requires in
-    let z = ethertype_size a.link 0x0800 a.facts (reply_done (c.emit_ethertype.ensures.reply []) c.in-Done.is) in
-    omega (arith, c.emit_ethertype.auto)
-
-pub returns-in-Refused : goal.returns-in-Refused
+pub returns-in_err-emit_ethertype : goal.returns-in_err-emit_ethertype
 unfolding emit_primitive
-returns-in-Refused c = let a = c.args in
-    record { reply = λ Y. guarded_refused a.link 0x0800 a.facts (c.emit_ethertype.ensures.reply Y) c.in-Refused.is (block (net_offset a.link)) }
+returns-in_err-emit_ethertype c =
+    let a = c.args in
+    let p = err_from_is_err_and c.from_residual.result c.from_residual.ensures.1 in
+    rw (p.1, p.2) (guarded_refused a.e.now.link 0x0800 a.e.now.facts c.emit_ethertype.ensures c.in_err-emit_ethertype.was _)
 
-pub returns-in-Done : goal.returns-in-Done
+pub check-requires : goal.check-requires
+check-requires c =
+    let a = c.args in
+    space_left 2 (omega arith) c.requires (ethertype_size a.e.now.link 0x0800 a.e.now.facts c.emit_ethertype.ensures c.in_ok-emit_ethertype.was)
+
+pub returns : goal.returns
 unfolding emit_primitive
-returns-in-Done c = let a = c.args in
-    record { reply = λ Y. guarded_grew a.link 0x0800 a.facts (c.emit_ethertype.ensures.reply Y) block c.in-Done.is c.net_offset.ensures.0 (c.check_word-t.ensures.grew Y) }
+returns c =
+    let a = c.args in
+    guarded_grew a.e.now.link 0x0800 a.e.now.facts c.emit_ethertype.ensures (λ (n : ℕ). check Word (n + 16) 0xffff_ffff) c.in_ok-emit_ethertype.was refl c.net_offset-n.ensures.offset c.check.ensures

@@ -1,24 +1,34 @@
-use native.Mathlib.Omega.{arith}
-use mathlib.Core.List.{[]}
-use Rattle.emit.proofs.Outcome.{reply_done}
-use Rattle.conditions.proofs.Sizes.{ethertype_size}
-use Rattle.conditions.proofs.Starts.{l4_refused, l4_known, l4_tested}
+use Rattle.std.proofs.Common.{arith, ap, ◌∙◌}
+use Rattle.std.proofs.lemmas.Result.{err_from_is_err_and}
+use Rattle.codegen.specs.Emit.{net_offset}
+use Rattle.conditions.proofs.Starts.{held, ethertype_size, ethertype_link, l4_refused, l4_known, l4_tested}
 use Rattle.conditions.proofs.emit_l4.Goals as goal
 
-pub returns-then-holds : goal.returns-then-holds
-returns-then-holds c = let a = c.args in
-    l4_known a.link a.version a.n a.facts c.ether_of-et.ensures c.emit_ethertype.ensures c.in-Done.is c.proto_fact-known.ensures c.holds.ensures c.if-holds.true
+pub returns-in_err-emit_ethertype : goal.returns-in_err-emit_ethertype
+returns-in_err-emit_ethertype c =
+    let a = c.args in
+    let p = err_from_is_err_and c.from_residual.result c.from_residual.ensures.1 in
+    rw (p.1, p.2) (l4_refused a.e.now.link a.version a.n a.e.now.facts (rw c.ethertype.ensures at c.emit_ethertype.ensures) c.in_err-emit_ethertype.was)
 
-pub check_byte-t-requires : goal.check_byte-t-requires
-check_byte-t-requires c = let a = c.args in
-    let p = c.requires in
-    let z = ethertype_size a.link c.ether_of-et.result a.facts (reply_done (c.emit_ethertype.ensures.reply []) c.in-Done.is) in
-    omega (arith, c.emit_ethertype.auto)
+pub check-requires : goal.check-requires
+check-requires c =
+    let a = c.args in
+    let z = ethertype_size a.e.now.link c.ethertype.result a.e.now.facts c.emit_ethertype.ensures c.in_ok-emit_ethertype.was in
+    record { insns = omega (arith, c.requires.insns, z.insns); writings = omega (arith, c.requires.writings, z.writings); failures = omega (arith, c.requires.failures, z.failures, z.lost_room) }
 
-pub returns-in-Refused : goal.returns-in-Refused
-returns-in-Refused c = let a = c.args in
-    l4_refused a.link a.version a.n a.facts c.ether_of-et.ensures c.emit_ethertype.ensures c.in-Refused.is
+pub returns-then-ne : goal.returns-then-ne
+returns-then-ne c =
+    let a = c.args in
+    let h = rw c.ethertype.ensures at c.emit_ethertype.ensures in
+    let q = rw c.proto_fact.ensures at (held c.proto_fact.result a.n c.if-ne.ensures) in
+    rw c.learn_proto-e.ensures
+    (l4_tested a.e.now.link a.version a.n a.e.now.facts h c.in_ok-emit_ethertype.was q
+    (c.net_offset.ensures.offset ∙ ap net_offset (ethertype_link a.e.now.link c.ethertype.result a.e.now.facts c.emit_ethertype.ensures c.in_ok-emit_ethertype.was))
+    c.proto_place.ensures.place c.check.ensures)
 
-pub returns-else-holds : goal.returns-else-holds
-returns-else-holds c = let a = c.args in
-    l4_tested a.link a.version a.n a.facts c.ether_of-et.ensures c.emit_ethertype.ensures c.in-Done.is c.proto_fact-known.ensures c.holds.ensures c.if-holds.false c.net_offset.ensures.0 c.proto_place.ensures.0 c.check_byte-t.ensures c.learn_proto-h.ensures
+pub returns-else-ne : goal.returns-else-ne
+returns-else-ne c =
+    let a = c.args in
+    let h = rw c.ethertype.ensures at c.emit_ethertype.ensures in
+    let q = rw c.proto_fact.ensures at (held c.proto_fact.result a.n c.if-ne.ensures) in
+    l4_known a.e.now.link a.version a.n a.e.now.facts h c.in_ok-emit_ethertype.was q

@@ -1,31 +1,25 @@
-use native.Mathlib.Omega.{arith}
-use Prim.Native.Nat.{ℕ, ◌+◌}
-use mathlib.Core.List.{[]}
-use Rattle.ast.specs.declared.Dir.{Dir}
-use Rattle.emit.specs.Lines.{op_of}
-use Rattle.codegen.specs.Block.{Block}
-use Rattle.codegen.specs.Emit.{net_offset, check_loads}
-use Rattle.emit.proofs.Outcome.{reply_done}
-use Rattle.conditions.specs.declared.Mask.{Mask}
+use Rattle.std.proofs.Common.{ℕ, ◌+◌, refl, arith}
+use Rattle.std.proofs.lemmas.Result.{err_from_is_err_and}
+use Rattle.codegen.specs.declared.Width.TheVariants.{Word}
+use Rattle.codegen.specs.declared.Op.TheVariants.{LdAbs}
+use Rattle.codegen.specs.Emit.{check_loads}
 use Rattle.conditions.specs.Loads.{load}
-use Rattle.conditions.proofs.Sizes.{ethertype_size}
-use Rattle.conditions.proofs.Starts.{guarded_refused, guarded_grew}
+use Rattle.emit.proofs.Grow.{room_left}
+use Rattle.conditions.proofs.Starts.{ethertype_size, guarded_refused, guarded_grew}
 use Rattle.conditions.proofs.emit_net.Goals as goal
 
-abbrev block : Dir → ℕ → Mask → ℕ → Block
-block d k m n = check_loads d k (load 0x20 (n + 12) m) (load 0x20 (n + 16) m)
+pub returns-in_err-emit_ethertype : goal.returns-in_err-emit_ethertype
+returns-in_err-emit_ethertype c =
+    let a = c.args in
+    let p = err_from_is_err_and c.from_residual.result c.from_residual.ensures.1 in
+    rw (p.1, p.2) (guarded_refused a.e.now.link 0x0800 a.e.now.facts c.emit_ethertype.ensures c.in_err-emit_ethertype.was _)
 
-pub check_addr4-t-requires : goal.check_addr4-t-requires
-unfolding op_of
-check_addr4-t-requires c = let a = c.args in
-    let p = c.requires in
-    let z = ethertype_size a.link 0x0800 a.facts (reply_done (c.emit_ethertype.ensures.reply []) c.in-Done.is) in
-    omega (arith, c.emit_ethertype.auto)
+pub check_addr4-requires : goal.check_addr4-requires
+check_addr4-requires c =
+    let a = c.args in
+    room_left 2 (omega arith) c.requires (ethertype_size a.e.now.link 0x0800 a.e.now.facts c.emit_ethertype.ensures c.in_ok-emit_ethertype.was)
 
-pub returns-in-Refused : goal.returns-in-Refused
-returns-in-Refused c = let a = c.args in
-    guarded_refused a.link 0x0800 a.facts (c.emit_ethertype.ensures.reply _) c.in-Refused.is (block a.dir a.k a.mask (net_offset a.link))
-
-pub returns-in-Done : goal.returns-in-Done
-returns-in-Done c = let a = c.args in
-    guarded_grew a.link 0x0800 a.facts (c.emit_ethertype.ensures.reply _) (block a.dir a.k a.mask) c.in-Done.is c.net_offset-n.ensures.0 c.check_addr4-t.ensures
+pub returns : goal.returns
+returns c =
+    let a = c.args in
+    guarded_grew a.e.now.link 0x0800 a.e.now.facts c.emit_ethertype.ensures (λ (n : ℕ). check_loads a.dir a.k (load (LdAbs Word (n + 12)) a.mask) (load (LdAbs Word (n + 16)) a.mask)) c.in_ok-emit_ethertype.was refl c.net_offset-n.ensures.offset c.check_addr4.ensures

@@ -1,14 +1,9 @@
-use mathlib.Core.Path.{◌≡◌}
-use Prim.Native.Nat.{◌≤◌, ◌-◌}
-use lib.ListN.{length}
-use lib.Seq.{slice}
+use Rattle.std.proofs.Common.{◌≡◌, drop}
 use Rattle.emit.specs.Lines.{Below, resolve}
 use Rattle.emit.proofs.resolve_all.Given as goal
 
-abbrev pub invariant-loop-i : goal.invariant-loop-i
-invariant-loop-i l =
-    (l.i ≤ l.to) × (length l.insns ≡ length l.initial.insns) × Below l.target (slice l.i l.to l.stack)
-    × (resolve (slice l.i l.to l.stack) l.target l.insns ≡ resolve (slice l.from l.to l.stack) l.target l.initial.insns)
-
-abbrev pub decreases-loop-i : goal.decreases-loop-i
-decreases-loop-i l = l.to - l.i
+abbrev pub invariant-loop-patch : goal.invariant-loop-patch
+invariant-loop-patch l = record {
+  below : Below l.target (drop l.patch-index l.patches);
+  same : resolve (drop l.patch-index l.patches) l.target l.insns ≡ resolve l.patches l.target l.initial.insns;
+}

@@ -1,12 +1,7 @@
-use mathlib.Core.Path.{◌≡◌}
-use mathlib.Core.List.{◌++◌}
-use Prim.Native.Nat.{◌≤◌, ◌-◌, ◌*◌}
-use lib.ListN.{length, take, drop}
-use Rattle.output.specs.Words.{bytes_of}
+use Rattle.std.proofs.Common.{◌≡◌, ◌++◌, ◌*◌, take, drop}
+use Rattle.bpf.specs.Program.{program_bytes}
 use Rattle.output.proofs.write_program.Given as goal
 
+-- the first i instructions are written
 abbrev pub invariant-loop-i : goal.invariant-loop-i
-invariant-loop-i l = (l.i ≤ l.n) × (length l.program ≡ length l.initial.program) × (l.program ≡ bytes_of (take l.i l.lines) ++ drop (8 * l.i) l.initial.program)
-
-abbrev pub decreases-loop-i : goal.decreases-loop-i
-decreases-loop-i l = l.n - l.i
+invariant-loop-i l = l.program ≡ program_bytes (take l.i l.insns) ++ drop (8 * l.i) l.fn.program

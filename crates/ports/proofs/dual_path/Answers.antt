@@ -1,18 +1,43 @@
-use native.Mathlib.Omega.{arith}
-use mathlib.Core.List.{[]}
-use Prim.Native.Nat.{◌+◌}
-use Rattle.emit.proofs.Grow.{then, put_failure, sized}
-use Rattle.ports.proofs.Hoisting.{l4_short, path4_short, dual_parts}
+use Rattle.std.proofs.Common.{ℕ, ◌+◌, ◌≤◌, length, arith}
+use Rattle.codegen.specs.declared.L4Set.{L4Set}
+use Rattle.codegen.specs.Block.{Block}
+use Rattle.codegen.specs.Emit.{l4_check, net_offset}
+use Rattle.conditions.specs.declared.Version.TheVariants.{V4}
+use Rattle.conditions.specs.Loads.{path}
+use Rattle.emit.specs.declared.Emitter.{Emitter}
+use Rattle.emit.specs.Grown.{Space, Grows}
+use Rattle.emit.proofs.Grow.{grows_then, sized, space_left}
+use Rattle.ports.proofs.Hoisting.{l4_short, path_short, then_at, dual_parts}
 use Rattle.ports.proofs.dual_path.Goals as goal
 
-pub ja_skip-u-requires : goal.ja_skip-u-requires
-ja_skip-u-requires c = let p = c.requires in omega (arith, c.fork-q.ensures, c.fork-q.auto, c.path-t.auto, sized 6 (path4_short c.args.n c.args.want) (c.path-t.ensures.grew []))
+-- the room after the fork and the path of IPv4
+left : (n : ℕ) (want : L4Set) {A : Block} {e f k : Emitter} → length A ≤ 3 → Space 14 e → Grows A e f → Grows (path V4 n want) f k → Space 5 k
+left n want {f = f} h s p q =
+    let t : Space 11 f = space_left 3 (omega arith) s (sized 3 h p) in
+    space_left 6 (omega arith) t (sized 6 (path_short (n + 9) n want V4) q)
 
-pub l4_check-v-requires : goal.l4_check-v-requires
-l4_check-v-requires c = let p = c.requires in omega (arith, c.fork-q.ensures, c.fork-q.auto, c.path-t.auto, sized 6 (path4_short c.args.n c.args.want) (c.path-t.ensures.grew []), c.ja_skip-u.ensures, c.ja_skip-u.auto)
+pub add-requires : goal.add-requires
+add-requires c =
+    let s = left _ c.args.want (omega arith) c.requires c.fork.ensures c.path.ensures in
+    record { insns = omega (arith, s.insns); writings = omega (arith, s.writings); free = tt }
+
+pub l4_check-requires : goal.l4_check-requires
+l4_check-requires c =
+    let s = left _ c.args.want (omega arith) c.requires c.fork.ensures c.path.ensures in
+    space_left 1 (omega arith) s (sized 1 (omega arith) c.add.ensures)
 
 pub header6-requires : goal.header6-requires
-header6-requires c = let p = c.requires in omega (arith, c.fork-q.ensures, c.fork-q.auto, c.path-t.auto, sized 6 (path4_short c.args.n c.args.want) (c.path-t.ensures.grew []), c.ja_skip-u.ensures, c.ja_skip-u.auto, c.l4_check-v.auto, sized 3 (l4_short (c.args.n + 6) c.args.want) (c.l4_check-v.ensures.grew []))
+header6-requires c =
+    let s = left _ c.args.want (omega arith) c.requires c.fork.ensures c.path.ensures in
+    let over = sized 1 (omega arith) c.add.ensures in
+    let check = sized 3 (l4_short _ c.args.want) c.l4_check.ensures in
+    record { insns = omega (arith, s.insns, over.insns, check.insns); writings = omega (arith, s.writings, over.writings, check.writings) }
 
 pub returns : goal.returns
-returns c = let a = c.args in rw (← dual_parts a.off a.n c.l4_len-len.result a.want c.l4_len-len.ensures.0) (put_failure (λ Y. then (then (then (then (c.fork-q.ensures.grew Y) (c.path-t.ensures.grew Y)) (c.ja_skip-u.ensures.grew Y _)) (c.l4_check-v.ensures.grew Y)) (c.header6.ensures.grew Y _)))
+returns c =
+    let a = c.args in
+    let want = a.want in
+    let fork4 = then_at (λ n. path V4 n want) c.fork.ensures c.path.ensures in
+    let over = grows_then fork4 c.add.ensures in
+    let both = then_at (λ n. l4_check (n + 6) want) over c.l4_check.ensures in
+    rw (← dual_parts a.off (net_offset a.e.now.link) c.l4_len-len.result want c.l4_len-len.ensures.length) (grows_then both c.header6.ensures)

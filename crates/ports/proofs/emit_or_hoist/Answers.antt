@@ -1,20 +1,43 @@
-use native.Mathlib.Omega.{arith}
-use mathlib.Core.List.{[]}
-use Rattle.ports.specs.Hoist.{hoist_ip4}
-use Rattle.codegen.specs.Emit.{or_hoist, is_raw, emit_ethertype}
-use mathlib.Core.Bool.{cond}
-use Rattle.codegen.specs.declared.Known.TheVariants.{Unknown}
-use Rattle.emit.proofs.Outcome.{bind_refused, reply_done}
-use Rattle.ports.proofs.Hoisting.{follow, ip4_follows, went_sized, known_short, ethertype_short}
+use Rattle.std.proofs.Common.{arith}
+use Rattle.std.proofs.lemmas.Result.{err_from_is_err_and}
+use Rattle.emit.proofs.Grow.{space_left, sized_then}
+use Rattle.conditions.specs.declared.Version.TheVariants.{V4, V6}
+use Rattle.ports.proofs.Hoisting.{ethertype_size, l4_size, first_refused, second_refused, third_refused, hoisted}
 use Rattle.ports.proofs.emit_or_hoist.Goals as goal
 
-pub hoist_ip4-requires : goal.hoist_ip4-requires
-hoist_ip4-requires c = let a = c.args in let p = c.requires in let z = went_sized 2 (known_short a.link 2 (cond (is_raw a.link) Unknown a.guards.ethertype) (emit_ethertype a.link) a.facts (ethertype_short a.link)) (reply_done (c.hoist_ethertype.ensures.reply []) c.in-Done.is) in omega (arith, c.hoist_ethertype.auto)
+pub returns-in_err-hoist_ethertype : goal.returns-in_err-hoist_ethertype
+returns-in_err-hoist_ethertype c =
+    let p = err_from_is_err_and c.from_residual.result c.from_residual.ensures.1 in
+    rw (p.1, p.2) (first_refused c.args.guards c.hoist_ethertype.ensures c.in_err-hoist_ethertype.was)
 
-pub returns-in-Refused : goal.returns-in-Refused
-unfolding or_hoist
-returns-in-Refused c = record { reply = λ Y. bind_refused (c.hoist_ethertype.ensures.reply Y) c.in-Refused.is _ }
+pub hoist_l4-requires : goal.hoist_l4-requires
+hoist_l4-requires c = space_left 2 (omega arith) c.requires (ethertype_size c.args.guards.ethertype c.hoist_ethertype.ensures c.in_ok-hoist_ethertype.was)
 
-pub returns-in-Done : goal.returns-in-Done
-unfolding or_hoist
-returns-in-Done c = let a = c.args in record { reply = λ Y. follow (hoist_ip4 a.link a.guards) (ip4_follows a.link a.guards) (reply_done (c.hoist_ethertype.ensures.reply Y) c.in-Done.is) (c.hoist_ip4.ensures.reply Y) }
+pub returns-in_err-hoist_l4 : goal.returns-in_err-hoist_l4
+returns-in_err-hoist_l4 c =
+    let p = err_from_is_err_and c.from_residual-in_err-hoist_l4.result c.from_residual-in_err-hoist_l4.ensures.1 in
+    rw (p.1, p.2) (second_refused c.args.guards c.hoist_ethertype.ensures c.in_ok-hoist_ethertype.was c.hoist_l4.ensures c.in_err-hoist_l4.was)
+
+pub hoist_l4-requires-2 : goal.hoist_l4-requires-2
+hoist_l4-requires-2 c =
+    let g = c.args.guards in
+    let y = ethertype_size g.ethertype c.hoist_ethertype.ensures c.in_ok-hoist_ethertype.was in
+    space_left 6 (omega arith) c.requires (sized_then 6 (omega arith) y (l4_size V4 g.ip4_proto c.hoist_l4.ensures c.in_ok-hoist_l4.was))
+
+pub returns-in_err-hoist_l4-2 : goal.returns-in_err-hoist_l4-2
+returns-in_err-hoist_l4-2 c =
+    let p = err_from_is_err_and c.from_residual-in_err-hoist_l4-2.result c.from_residual-in_err-hoist_l4-2.ensures.1 in
+    rw (p.1, p.2)
+    (third_refused c.args.guards c.hoist_ethertype.ensures c.in_ok-hoist_ethertype.was c.hoist_l4.ensures c.in_ok-hoist_l4.was c.hoist_l4-2.ensures c.in_err-hoist_l4-2.was)
+
+pub hoist_ports-requires : goal.hoist_ports-requires
+hoist_ports-requires c =
+    let g = c.args.guards in
+    let y = ethertype_size g.ethertype c.hoist_ethertype.ensures c.in_ok-hoist_ethertype.was in
+    let z = sized_then 6 (omega arith) y (l4_size V4 g.ip4_proto c.hoist_l4.ensures c.in_ok-hoist_l4.was) in
+    space_left 10 (omega arith) c.requires (sized_then 10 (omega arith) z (l4_size V6 g.ip6_nh c.hoist_l4-2.ensures c.in_ok-hoist_l4-2.was))
+
+pub returns : goal.returns
+returns c =
+    hoisted c.args.guards c.hoist_ethertype.ensures c.in_ok-hoist_ethertype.was c.hoist_l4.ensures c.in_ok-hoist_l4.was c.hoist_l4-2.ensures
+    c.in_ok-hoist_l4-2.was c.hoist_ports.ensures

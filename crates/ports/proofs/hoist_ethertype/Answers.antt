@@ -1,12 +1,10 @@
-use mathlib.Core.Path.{sym, ap, ◌∙◌}
-use mathlib.Core.Bool.{cond}
-use Rattle.codegen.specs.declared.Known.TheVariants.{Unknown}
+use Rattle.std.proofs.Common.{ap, ◌∙◌, cond, None}
 use Rattle.codegen.specs.Emit.{emit_ethertype}
-use Rattle.ports.proofs.Hoisting.{hoist_unknown}
+use Rattle.ports.proofs.Hoisting.{raw, known_follows}
 use Rattle.ports.proofs.hoist_ethertype.Goals as goal
 
-pub returns-then-is_raw : goal.returns-then-is_raw
-returns-then-is_raw c = let a = c.args in hoist_unknown a.link a.facts _ (emit_ethertype a.link) (ap (λ b. cond b Unknown a.ethertype) (sym c.is_raw.ensures ∙ c.if-is_raw.true))
-
-pub returns-in-Unknown : goal.returns-in-Unknown
-returns-in-Unknown c = let a = c.args in hoist_unknown a.link a.facts _ (emit_ethertype a.link) (ap (λ b. cond b Unknown a.ethertype) (sym c.is_raw.ensures ∙ c.if-is_raw.false) ∙ c.in-Unknown.is)
+pub returns-in-Some : goal.returns-in-Some
+returns-in-Some c =
+    let a = c.args in
+    let L = a.e.now.link in
+    known_follows L (emit_ethertype L) (ap (λ b. cond b None a.ethertype) (raw L c.if-ne.ensures) ∙ c.in-Some.is) c.emit_ethertype.ensures

@@ -1,13 +1,10 @@
-use borrow.Author.Rules.{rules}
-use Rattle.emit.specs.Lines.{op_of}
 use Rattle.codegen.specs.Emit.{l4_check}
-use Rattle.emit.proofs.Grow.{then_failure}
+use Rattle.emit.proofs.Grow.{grows_then}
 use Rattle.ports.proofs.l4_check.Goals as goal
 
-pub push-q-requires : goal.push-q-requires
-unfolding op_of l4_check
-push-q-requires c = search rules
-
 pub returns : goal.returns
-unfolding op_of l4_check
-returns c = then_failure c.push-q.ensures c.emit_l4_set_check.ensures
+unfolding l4_check
+returns c =
+    let off = c.net_offset.ensures.offset in
+    let place = c.proto_place.ensures.place in
+    rw (← off, ← place) (grows_then c.add.ensures c.emit_l4_set_check.ensures)

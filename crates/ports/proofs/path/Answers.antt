@@ -1,11 +1,11 @@
-use native.Mathlib.Omega.{arith}
-use mathlib.Core.List.{[]}
-use Rattle.emit.proofs.Grow.{then, put_failure, sized}
-use Rattle.ports.proofs.Hoisting.{l4_short}
+use Rattle.std.proofs.Common.{arith}
+use Rattle.conditions.specs.Loads.{header}
+use Rattle.emit.proofs.Grow.{sized, space_left}
+use Rattle.ports.proofs.Hoisting.{l4_short, then_at}
 use Rattle.ports.proofs.path.Goals as goal
 
 pub header-requires : goal.header-requires
-header-requires c = let p = c.requires in omega (arith, c.l4_check-q.auto, sized 3 (l4_short _ c.args.want) (c.l4_check-q.ensures.grew []))
+header-requires c = space_left 3 (omega arith) c.requires (sized 3 (l4_short _ c.args.want) c.l4_check.ensures)
 
 pub returns : goal.returns
-returns c = put_failure (λ Y. then (rw c.proto_place.ensures.0 at (c.l4_check-q.ensures.grew Y)) (c.header.ensures.grew Y))
+returns c = then_at (header c.args.version) c.l4_check.ensures c.header.ensures

@@ -1,6 +1,13 @@
-use Rattle.primitives.proofs.Leaves.{ether_host}
-use Rattle.reader.proofs.Firsts.{kind_is}
+use Rattle.std.proofs.Common.{◌+◌, ◌*◌, ◌≤◌, length, rules}
+use Rattle.codegen.proofs.Nets6.{whole_prefix}
+use Rattle.codegen.specs.Emit.{net_offset, emit_primitive}
 use Rattle.primitives.proofs.emit_primitive.Goals as goal
 
-pub returns-in-17 : goal.returns-in-17
-returns-in-17 c = let a = c.args in let p = c.requires in rw (ether_host p.0 a.link a.facts (kind_is a.tree.now a.i c.byte_at-kind.ensures c.in-17.is) c.direction-dir.ensures c.word_at-four.ensures c.half_at-two.ensures) c.emit_ether_host.ensures
+-- a host is a net whose prefix reaches over all segments
+pub returns-in-Host6 : goal.returns-in-Host6
+unfolding emit_primitive
+returns-in-Host6 c =
+    let n = net_offset c.args.e.now.link in
+    let s = c.in-Host6.address in
+    let l : 16 * length s ≤ 128 = search rules in
+    rw (c.in-Host6.is, ← whole_prefix 128 (n + 8) s l, ← whole_prefix 128 (n + 24) s l) c.emit_net6.ensures
