@@ -1,6 +1,5 @@
-pub mod Joined
+pub mod Frames
 pub mod Segments
 pub mod Conditions
-pub mod Places
 pub mod Turns
 pub mod Whole

@@ -4,13 +4,13 @@ use mathlib.Core.Path.{◌≡◌, sym, ap, ◌∙◌}
 use mathlib.Core.List.{List}
 use mathlib.Core.Bool.{Bool, true, false, not}
 use Rattle.ast.specs.declared.LinkType.{LinkType}
+use Rattle.ast.specs.declared.Primitive.{Primitive}
 use Rattle.ast.specs.Tree.{Expr, And, Or}
 use Rattle.direct.specs.Reading.{reads_primitive, reads}
-use Rattle.reader.specs.Reader.{tree_of, end_of, leaf_at}
+use Rattle.reader.specs.Reader.{tree_of, end_of}
 use Rattle.reader.proofs.Here.{TwoParts, OnePart, NoPart}
 use Rattle.evaluate.specs.declared.Read.{Read}
 use Rattle.evaluate.specs.Promise.{Says}
-use Rattle.evaluate.proofs.Joined.{held, missed}
 
 abbrev answer : Bool → ℕ → Read
 answer v n = record { value = v; next = n }
@@ -25,7 +25,7 @@ module _ {L : LinkType} {f s : List ℕ} {i : ℕ} {l r : Read} where
 
   pub and_held : TwoParts And s i → Says L f s (i + 1) l → Says L f s l.next r → l.value ≡ true → Says L f s i (answer r.value r.next)
   unfolding reads
-  and_held p a b h = record { value = held a.value h (right a b) ∙ sym (ap (reads L f) p.tree); next = ends p a b }
+  and_held p a b h = record { value = rw (p.tree, sym a.value ∙ h) (right a b); next = ends p a b }
 
   pub and_failed : TwoParts And s i → Says L f s (i + 1) l → Says L f s l.next r → l.value ≡ false → Says L f s i (answer l.value r.next)
   unfolding reads
@@ -37,12 +37,12 @@ module _ {L : LinkType} {f s : List ℕ} {i : ℕ} {l r : Read} where
 
   pub or_failed : TwoParts Or s i → Says L f s (i + 1) l → Says L f s l.next r → l.value ≡ false → Says L f s i (answer r.value r.next)
   unfolding reads
-  or_failed p a b h = record { value = missed a.value h (right a b) ∙ sym (ap (reads L f) p.tree); next = ends p a b }
+  or_failed p a b h = record { value = rw (p.tree, sym a.value ∙ h) (right a b); next = ends p a b }
 
 pub not_says : {L : LinkType} {f s : List ℕ} {i : ℕ} {l : Read} → OnePart s i → Says L f s (i + 1) l → Says L f s i (answer (not l.value) l.next)
 unfolding reads
 not_says {L} {f} p a = record { value = ap not a.value ∙ sym (ap (reads L f) p.tree); next = a.next ∙ sym p.end }
 
-pub leaf_says : {L : LinkType} {f s : List ℕ} {i : ℕ} {v : Bool} → NoPart s i → v ≡ reads_primitive L f (leaf_at s i) → Says L f s i (answer v (i + 1))
+pub leaf_says : {L : LinkType} {f s : List ℕ} {i : ℕ} {k : Primitive} {v : Bool} → NoPart k s i → v ≡ reads_primitive L f k → Says L f s i (answer v (i + 1))
 unfolding reads
 leaf_says {L} {f} p e = record { value = e ∙ sym (ap (reads L f) p.tree); next = sym p.end }

@@ -1,110 +1,23 @@
 // The direct reading of a tree file on a frame. Every place, number and mask here is this file's own.
 #![tactic(auto)]
 
-ghost use Rattle.std.specs.Prelude.{◌≡◌, ◌+◌, ◌-◌, ◌%◌, ◌≤◌, ◌<◌, length, eqb};
-ghost use Rattle.bpf.specs.Bytes.{be, bytes_at};
-ghost use Rattle.ast.specs.Record.{proto_of};
-ghost use Rattle.ast.specs.Tree.{Host4, Net, Net6, EtherHost, EtherMulticast, IpBroadcast, IpMulticast, Ip6Multicast};
+ghost use Rattle.std.specs.Prelude.{◌≡◌, ◌+◌, ◌≤◌, ◌<◌, ◌&&◌, eqb};
+ghost use Rattle.ast.specs.declared.Primitive.TheVariants.{Net, Net6, EtherHost, EtherMulticast, IpBroadcast, IpMulticast, Ip6Multicast};
+ghost use Rattle.ast.specs.declared.Node.TheVariants.{AndNode, OrNode, NotNode};
+ghost use Rattle.ast.specs.Record.{node_at};
+ghost use Rattle.bpf.specs.Bytes.{AreBytes};
 ghost use Rattle.direct.specs.Reading as R;
 ghost use Rattle.direct.specs.Direct.{direct};
-ghost use Rattle.reader.specs.Reader.{place, leaf_at, LeafHere, Here};
-ghost use Rattle.evaluate.specs.Promise.{ranged, Starts, InSet, Port4, Port6, PortsRead, Says};
+ghost use Rattle.reader.specs.Reader.{place, Here};
+ghost use Rattle.evaluate.specs.Promise.{ranged, over_ipv4, over_ipv6, Says};
 
-use ast::{Dir, LinkType};
-use direct::DirectResult;
+use ast::{Dir, LinkType, Node, Primitive, Proto};
 use error::Refusal;
-use reader::{Checked, byte_at, check, direction, half_at, segments_at, word_at};
 
-// ---- the frame's bytes; zero past the end
+// The ethertypes of IPv4 and IPv6.
+const IPV4: u16 = 0x0800;
 
-fn byte(frame: &[u8], at: usize) -> u8
-    ensures { result ≡ be 1 at frame.now }
-{
-    if at < frame.len() { frame[at] } else { 0 }
-}
-
-fn wide(b: u8) -> u32
-    ensures { (result ≡ b) × (result < 256) }
-{
-    b as u32
-}
-
-fn half(frame: &[u8], at: usize) -> u32
-    requires { at < 65536 }
-    ensures { (result ≡ be 2 at frame.now) × (result < 65536) }
-{
-    wide(byte(frame, at)) * 256 + wide(byte(frame, at + 1))
-}
-
-fn word(frame: &[u8], at: usize) -> u32
-    requires { at < 65536 }
-    ensures { result ≡ be 4 at frame.now }
-{
-    ((wide(byte(frame, at)) * 256 + wide(byte(frame, at + 1))) * 256 + wide(byte(frame, at + 2)))
-        * 256
-        + wide(byte(frame, at + 3))
-}
-
-// ---- kinds and protocols
-
-// Where the network header starts.
-fn network_start(link: LinkType) -> usize
-    ensures { Starts link result }
-{
-    match link {
-        LinkType::Ethernet => 14,
-        LinkType::RawIp => 0,
-        LinkType::LinuxSll => 16,
-    }
-}
-
-// The ethertype is v. RawIp has none: there it is IPv4.
-fn is_kind(link: LinkType, frame: &[u8], v: u16) -> bool
-    ensures { result ≡ R.kind link frame.now v }
-{
-    match link {
-        LinkType::Ethernet => half(frame, 12) == v as u32,
-        LinkType::RawIp => v == 0x0800,
-        LinkType::LinuxSll => half(frame, 14) == v as u32,
-    }
-}
-
-fn ipv4(link: LinkType, frame: &[u8], p: u8) -> bool
-    ensures { result ≡ R.ipv4 link frame.now p }
-{
-    let n = network_start(link);
-    is_kind(link, frame, 0x0800) && byte(frame, n + 9) == p
-}
-
-fn ipv6(link: LinkType, frame: &[u8], p: u8) -> bool
-    ensures { result ≡ R.ipv6 link frame.now p }
-{
-    let n = network_start(link);
-    is_kind(link, frame, 0x86dd) && byte(frame, n + 6) == p
-}
-
-// A protocol by its byte; `small` is the number of 11 and 12.
-fn protocol(link: LinkType, frame: &[u8], p: u8, small: u8) -> bool
-    requires { p ≤ 12 }
-    ensures { result ≡ R.reads_proto link frame.now (proto_of p small) }
-{
-    match p {
-        2 => is_kind(link, frame, 0x86dd), // Ip6
-        3 => is_kind(link, frame, 0x0806), // Arp
-        4 => is_kind(link, frame, 0x8035), // Rarp
-        5 => ipv4(link, frame, 6), // Tcp
-        6 => ipv4(link, frame, 17), // Udp
-        7 => ipv4(link, frame, 1), // Icmp
-        8 => ipv6(link, frame, 58), // Icmp6
-        9 => ipv4(link, frame, 2), // Igmp
-        10 => ipv4(link, frame, 132), // Sctp
-        11 => ipv4(link, frame, small), // Num
-        12 => ipv6(link, frame, small), // Ip6Proto
-        _ => is_kind(link, frame, 0x0800), // Ip
-    }
-}
-
-// ---- hosts and nets
+const IPV6: u16 = 0x86dd;
 
 // Of a test of the source and one of the destination.
 fn sides(d: Dir, source: bool, destination: bool) -> bool
@@ -118,364 +31,416 @@ fn sides(d: Dir, source: bool, destination: bool) -> bool
     }
 }
 
-fn host4(link: LinkType, frame: &[u8], d: Dir, a: u32) -> bool
-    ensures { result ≡ R.reads_primitive link frame.now (Host4 d a) }
+// The frame's protocol q is in the set that a port condition names.
+fn in_set(protocol: Option<Proto>, q: u8) -> bool
+    ensures { result ≡ R.port_set protocol q }
 {
-    let n = network_start(link);
-    is_kind(link, frame, 0x0800) && sides(d, word(frame, n + 12) == a, word(frame, n + 16) == a)
-}
-
-// Source and destination under a mask.
-fn net4(link: LinkType, frame: &[u8], d: Dir, a: u32, mask: u32) -> bool
-    ensures { result ≡ R.reads_primitive link frame.now (Net d a mask) }
-{
-    if !is_kind(link, frame, 0x0800) {
-        return false;
-    }
-    let n = network_start(link);
-    let source = word(frame, n + 12) & mask == a & mask;
-    let destination = word(frame, n + 16) & mask == a & mask;
-    sides(d, source, destination)
-}
-
-// How many low bits of a segment a prefix leaves free.
-fn spare(prefix: usize) -> u32
-    ensures { (result ≡ 16 - prefix) × (result ≤ 16) }
-{
-    if prefix < 16 { 16 - prefix as u32 } else { 0 }
-}
-
-// What is left of a prefix after a segment.
-fn rest_of(prefix: usize) -> usize
-    ensures { result ≡ prefix - 16 }
-{
-    if prefix < 16 { 0 } else { prefix - 16 }
-}
-
-// The frame's segments from `at` on agree with these in the first `prefix` bits.
-fn segments_agree(frame: &[u8], prefix: usize, at: usize, segs: [u16; 8]) -> bool
-    requires { at < 60000 }
-    ensures { result ≡ R.segments_agree frame.now prefix at segs }
-{
-    let mut i: usize = 0;
-    let mut left = prefix;
-    let mut place = at;
-    while i < 8 {
-        let free = spare(left);
-        if half(frame, place) >> free != segs[i] as u32 >> free {
-            return false;
-        }
-        left = rest_of(left);
-        place += 2;
-        i += 1;
-    }
-    true
-}
-
-// An IPv6 net; a host is one with the prefix 128.
-fn net6(link: LinkType, frame: &[u8], d: Dir, prefix: usize, segs: [u16; 8]) -> bool
-    ensures { result ≡ R.reads_primitive link frame.now (Net6 d prefix segs) }
-{
-    if !is_kind(link, frame, 0x86dd) {
-        return false;
-    }
-    let n = network_start(link);
-    let source = segments_agree(frame, prefix, n + 8, segs);
-    let destination = segments_agree(frame, prefix, n + 24, segs);
-    sides(d, source, destination)
-}
-
-// ---- ports
-
-// The frame's protocol q is in the set that the protocol byte p names.
-fn in_set(p: u8, q: u8) -> bool
-    requires { p ≤ 12 }
-    ensures { InSet p q result }
-{
-    match p {
-        0 => q == 6 || q == 17,
-        5 => q == 6,
-        6 => q == 17,
-        10 => q == 132,
-        _ => false,
+    match protocol {
+        None => q == 6 || q == 17,
+        Some(Proto::Tcp) => q == 6,
+        Some(Proto::Udp) => q == 17,
+        Some(Proto::Sctp) => q == 132,
+        Some(_) => false,
     }
 }
 
-fn within(v: u32, low: u16, high: u16) -> bool
-    ensures { result ≡ ranged low high v }
-{
-    low as u32 <= v && v <= high as u32
+// A condition on ports: "Range: low ≤ port ≤ high."
+#[derive(Clone, Copy)]
+struct Ports {
+    dir: Dir,
+    protocol: Option<Proto>,
+    low: u16,
+    high: u16,
 }
 
-// The source port at a place, and the destination port behind it.
-fn ports(frame: &[u8], at: usize, d: Dir, low: u16, high: u16) -> bool
-    requires { at < 60000 }
-    ensures { result ≡ R.sides d (ranged low high (be 2 at frame.now)) (ranged low high (be 2 (at + 2) frame.now)) }
-{
-    let source = within(half(frame, at), low, high);
-    let destination = within(half(frame, at + 2), low, high);
-    sides(d, source, destination)
-}
-
-// Over IPv4: not in a later fragment, and behind a header of 4 times its length field.
-fn port4(link: LinkType, frame: &[u8], d: Dir, p: u8, low: u16, high: u16) -> bool
-    requires { p ≤ 12 }
-    ensures { Port4 link frame.now d p low high result }
-{
-    let n = network_start(link);
-    if !is_kind(link, frame, 0x0800) {
-        return false;
-    }
-    if !in_set(p, byte(frame, n + 9)) {
-        return false;
-    }
-    if half(frame, n + 6) % 8192 != 0 {
-        return false;
-    }
-    let x = 4 * (byte(frame, n) as usize % 16);
-    ports(frame, n + x, d, low, high)
-}
-
-// Over IPv6, behind its 40 bytes.
-fn port6(link: LinkType, frame: &[u8], d: Dir, p: u8, low: u16, high: u16) -> bool
-    requires { p ≤ 12 }
-    ensures { Port6 link frame.now d p low high result }
-{
-    let n = network_start(link);
-    if !is_kind(link, frame, 0x86dd) {
-        return false;
-    }
-    if !in_set(p, byte(frame, n + 6)) {
-        return false;
-    }
-    ports(frame, n + 40, d, low, high)
-}
-
-// A port from low to high.
-fn port_range(link: LinkType, frame: &[u8], d: Dir, p: u8, low: u16, high: u16) -> bool
-    requires { p ≤ 12 }
-    ensures { PortsRead link frame.now d p low high result }
-{
-    port4(link, frame, d, p, low, high) || port6(link, frame, d, p, low, high)
-}
-
-// ---- the link's addresses
-
-fn bytes_are(frame: &[u8], at: usize, address: [u8; 6]) -> bool
-    requires { at < 60000 }
-    ensures { result ≡ R.bytes_are frame.now at address }
-{
-    let mut i: usize = 0;
-    while i < 6 {
-        if byte(frame, at + i) != address[i] {
-            return false;
-        }
-        i += 1;
-    }
-    true
-}
-
-// The source's address, or the sender's in a cooked capture, whose length has to be 6.
-fn from_station(link: LinkType, frame: &[u8], address: [u8; 6]) -> bool
-    ensures { result ≡ R.from_station link frame.now address }
-{
-    match link {
-        LinkType::Ethernet => bytes_are(frame, 6, address),
-        LinkType::RawIp => bytes_are(frame, 6, address),
-        LinkType::LinuxSll => half(frame, 4) == 6 && bytes_are(frame, 6, address),
-    }
-}
-
-// A cooked capture has no destination address.
-fn to_station(link: LinkType, frame: &[u8], address: [u8; 6]) -> bool
-    ensures { result ≡ R.to_station link frame.now address }
-{
-    match link {
-        LinkType::Ethernet => bytes_are(frame, 0, address),
-        LinkType::RawIp => bytes_are(frame, 0, address),
-        LinkType::LinuxSll => false,
-    }
-}
-
-fn ether_host(link: LinkType, frame: &[u8], d: Dir, address: [u8; 6]) -> bool
-    ensures { result ≡ R.reads_primitive link frame.now (EtherHost d address) }
-{
-    let source = from_station(link, frame, address);
-    let destination = to_station(link, frame, address);
-    sides(d, source, destination)
-}
-
-// The first byte is odd. A cooked capture has no destination address.
-fn ether_multicast(link: LinkType, frame: &[u8]) -> bool
-    ensures { result ≡ R.reads_primitive link frame.now EtherMulticast }
-{
-    match link {
-        LinkType::Ethernet => byte(frame, 0) % 2 == 1,
-        LinkType::RawIp => byte(frame, 0) % 2 == 1,
-        LinkType::LinuxSll => false,
-    }
-}
-
-// ---- destinations of many
-
-fn ip_broadcast(link: LinkType, frame: &[u8]) -> bool
-    ensures { result ≡ R.reads_primitive link frame.now IpBroadcast }
-{
-    let n = network_start(link);
-    is_kind(link, frame, 0x0800) && word(frame, n + 16) == 0xffffffff
-}
-
-// The top bits are 1110.
-fn ip_multicast(link: LinkType, frame: &[u8]) -> bool
-    ensures { result ≡ R.reads_primitive link frame.now IpMulticast }
-{
-    let n = network_start(link);
-    is_kind(link, frame, 0x0800) && word(frame, n + 16) >> 28 == 14
-}
-
-fn ip6_multicast(link: LinkType, frame: &[u8]) -> bool
-    ensures { result ≡ R.reads_primitive link frame.now Ip6Multicast }
-{
-    let n = network_start(link);
-    is_kind(link, frame, 0x86dd) && byte(frame, n + 24) == 0xff
-}
-
-// ---- the tree
-
-// The ether address of record i.
-fn ether_at(tree: &[u8], i: usize) -> [u8; 6]
-    requires { (i < 128) × (place i + 13 < length tree.now) }
-    ensures { result ≡ bytes_at 6 (place i + 8) tree.now }
-{
-    [
-        byte_at(tree, i, 8),
-        byte_at(tree, i, 9),
-        byte_at(tree, i, 10),
-        byte_at(tree, i, 11),
-        byte_at(tree, i, 12),
-        byte_at(tree, i, 13),
-    ]
-}
-
-// The condition of record i.
-fn eval_primitive(tree: &[u8], i: usize, link: LinkType, frame: &[u8]) -> bool
-    requires { LeafHere tree.now i }
-    ensures { result ≡ R.reads_primitive link frame.now (leaf_at tree.now i) }
-{
-    let kind = byte_at(tree, i, 0);
-    let d = direction(tree, i);
-    match kind {
-        10 => protocol(link, frame, byte_at(tree, i, 2), byte_at(tree, i, 3)),
-        11 => host4(link, frame, d, word_at(tree, i, 8)),
-        12 => net6(link, frame, d, 128, segments_at(tree, i)),
-        13 => net4(link, frame, d, word_at(tree, i, 8), word_at(tree, i, 12)),
-        14 => net6(
-            link,
-            frame,
-            d,
-            byte_at(tree, i, 3) as usize,
-            segments_at(tree, i),
-        ),
-        15 => {
-            let k = half_at(tree, i, 4);
-            port_range(link, frame, d, byte_at(tree, i, 2), k, k)
-        }
-        16 => {
-            let low = half_at(tree, i, 4);
-            let high = half_at(tree, i, 6);
-            port_range(link, frame, d, byte_at(tree, i, 2), low, high)
-        }
-        17 => ether_host(link, frame, d, ether_at(tree, i)),
-        18 => is_kind(link, frame, half_at(tree, i, 4)),
-        19 => ether_multicast(link, frame),
-        20 => ip_broadcast(link, frame),
-        21 => ip_multicast(link, frame),
-        22 => ip6_multicast(link, frame),
-        23 => ipv4(link, frame, byte_at(tree, i, 3)),
-        _ => ipv6(link, frame, byte_at(tree, i, 3)),
+impl Ports {
+    fn within(self, v: u16) -> bool
+        ensures { result ≡ ranged self.low self.high v }
+    {
+        self.low <= v && v <= self.high
     }
 }
 
 // What the tree at a record says of the frame, and the record after the tree.
 #[derive(Clone, Copy)]
-pub struct Read {
-    pub value: bool,
-    pub next: usize,
+struct Read {
+    value: bool,
+    next: usize,
 }
 
-// Each join reads its parts by `eval_node`, which reads each join by its function, at fewer records left.
-#[cycle(nodes)]
-fn eval_and(tree: &[u8], i: usize, link: LinkType, frame: &[u8]) -> Read
-    requires { Here tree.now i × (be 1 (place i) tree.now ≡ 1) }
-    ensures { Says link frame.now tree.now i result }
-{
-    let left = eval_node(tree, i + 1, link, frame);
-    let m = left.next;
-    let right = eval_node(tree, m, link, frame);
-    Read {
-        value: left.value && right.value,
-        next: right.next,
+// A frame and the link whose framing it has.
+#[derive(Clone, Copy)]
+struct Packet<'a> {
+    link: LinkType,
+    frame: &'a [u8],
+    ghost bytes: { AreBytes frame.now },
+}
+
+impl<'a> Packet<'a> {
+    // ---- the frame's numbers; bytes past the end zero
+
+    #[tactic(auto, using(crate::proofs::Frames::past_end, bpf::proofs::Bytes::be_first))]
+    fn byte(self, at: usize) -> u8
+        ensures { result ≡ R.b self.entry.frame.now at }
+    {
+        self.frame.get(at).copied().unwrap_or(0)
     }
-}
 
-#[cycle(nodes)]
-fn eval_or(tree: &[u8], i: usize, link: LinkType, frame: &[u8]) -> Read
-    requires { Here tree.now i × (be 1 (place i) tree.now ≡ 2) }
-    ensures { Says link frame.now tree.now i result }
-{
-    let left = eval_node(tree, i + 1, link, frame);
-    let m = left.next;
-    let right = eval_node(tree, m, link, frame);
-    Read {
-        value: left.value || right.value,
-        next: right.next,
+    #[tactic(auto, using(crate::proofs::Frames::half_is))]
+    fn half(self, at: usize) -> u16
+        requires { at < 65536 }
+        ensures { result ≡ R.h self.entry.frame.now at }
+    {
+        u16::from_be_bytes([self.byte(at), self.byte(at + 1)])
     }
-}
 
-#[cycle(nodes)]
-fn eval_not(tree: &[u8], i: usize, link: LinkType, frame: &[u8]) -> Read
-    requires { Here tree.now i × (be 1 (place i) tree.now ≡ 3) }
-    ensures { Says link frame.now tree.now i result }
-{
-    let part = eval_node(tree, i + 1, link, frame);
-    Read {
-        value: !part.value,
-        next: part.next,
+    #[tactic(auto, using(crate::proofs::Frames::word_is))]
+    fn word(self, at: usize) -> u32
+        requires { at < 65536 }
+        ensures { result ≡ R.w self.entry.frame.now at }
+    {
+        u32::from_be_bytes([
+            self.byte(at),
+            self.byte(at + 1),
+            self.byte(at + 2),
+            self.byte(at + 3),
+        ])
     }
-}
 
-// The tree at record i.
-#[cycle(nodes)]
-fn eval_node(tree: &[u8], i: usize, link: LinkType, frame: &[u8]) -> Read
-    requires { Here tree.now i }
-    ensures { Says link frame.now tree.now i result }
-{
-    let kind = byte_at(tree, i, 0);
-    match kind {
-        1 => eval_and(tree, i, link, frame),
-        2 => eval_or(tree, i, link, frame),
-        3 => eval_not(tree, i, link, frame),
-        _ => Read {
-            value: eval_primitive(tree, i, link, frame),
-            next: i + 1,
-        },
+    // Where the network header starts.
+    fn network_start(self) -> usize
+        ensures start { result ≡ R.network_start self.entry.link }
+        ensures small { result ≤ 16 }
+    {
+        match self.link {
+            LinkType::Ethernet => 14,
+            LinkType::RawIp => 0,
+            LinkType::LinuxSll => 16,
+        }
+    }
+
+    // ---- kinds and protocols
+
+    // The ethertype is v. RawIp has none: there it is IPv4.
+    #[tactic(auto, unfolding(direct::specs::Reading::kind))]
+    fn kind(self, v: u16) -> bool
+        ensures { result ≡ R.kind self.entry.link self.entry.frame.now v }
+    {
+        match self.link {
+            LinkType::Ethernet => self.half(12) == v,
+            LinkType::RawIp => v == IPV4,
+            LinkType::LinuxSll => self.half(14) == v,
+        }
+    }
+
+    // The ethertype is this, and the byte at a place behind the network header's start is p.
+    fn carries(self, ethertype: u16, at: usize, p: u8) -> bool
+        requires { at < 60000 }
+        ensures { result ≡ (R.kind self.entry.link self.entry.frame.now ethertype && eqb (R.b self.entry.frame.now (R.network_start self.entry.link + at)) p) }
+    {
+        self.kind(ethertype) && self.byte(self.network_start() + at) == p
+    }
+
+    #[tactic(auto, unfolding(direct::specs::Reading::ipv4))]
+    fn ipv4(self, p: u8) -> bool
+        ensures { result ≡ R.ipv4 self.entry.link self.entry.frame.now p }
+    {
+        self.carries(IPV4, 9, p)
+    }
+
+    #[tactic(auto, unfolding(direct::specs::Reading::ipv6))]
+    fn ipv6(self, p: u8) -> bool
+        ensures { result ≡ R.ipv6 self.entry.link self.entry.frame.now p }
+    {
+        self.carries(IPV6, 6, p)
+    }
+
+    #[tactic(auto, unfolding(direct::specs::Reading::reads_proto))]
+    fn protocol(self, protocol: Proto) -> bool
+        ensures { result ≡ R.reads_proto self.entry.link self.entry.frame.now protocol }
+    {
+        match protocol {
+            Proto::Ip => self.kind(IPV4),
+            Proto::Ip6 => self.kind(IPV6),
+            Proto::Arp => self.kind(0x0806),
+            Proto::Rarp => self.kind(0x8035),
+            Proto::Tcp => self.ipv4(6),
+            Proto::Udp => self.ipv4(17),
+            Proto::Icmp => self.ipv4(1),
+            Proto::Icmp6 => self.ipv6(58),
+            Proto::Igmp => self.ipv4(2),
+            Proto::Sctp => self.ipv4(132),
+            Proto::Num(p) => self.ipv4(p),
+            Proto::Ip6Proto(p) => self.ipv6(p),
+        }
+    }
+
+    // ---- hosts and nets
+
+    // An IPv4 net: source and destination under its mask. A host is one under the whole mask.
+    #[tactic(auto, unfolding(direct::specs::Reading::reads_primitive))]
+    fn net4(self, d: Dir, a: u32, mask: u32) -> bool
+        ensures { result ≡ R.reads_primitive self.entry.link self.entry.frame.now (Net d a mask) }
+    {
+        if !self.kind(IPV4) {
+            return false;
+        }
+        let n = self.network_start();
+        let source = self.word(n + 12) & mask == a & mask;
+        let destination = self.word(n + 16) & mask == a & mask;
+        sides(d, source, destination)
+    }
+
+    // The frame's segments from `at` on agree with these in the first `prefix` bits.
+    fn segments_agree(self, prefix: usize, at: usize, segs: [u16; 8]) -> bool
+        requires { at < 60000 }
+        ensures { result ≡ R.segments_agree self.entry.frame.now prefix at segs }
+    {
+        for (i, segment) in segs.iter().enumerate() {
+            // How many low bits of this segment the prefix leaves free.
+            let free = 16usize.saturating_sub(prefix.saturating_sub(16 * i));
+            if u32::from(self.half(at + 2 * i)) >> free != u32::from(*segment) >> free {
+                return false;
+            }
+        }
+        true
+    }
+
+    // An IPv6 net; a host is one with the prefix 128.
+    #[tactic(auto, unfolding(direct::specs::Reading::reads_primitive))]
+    fn net6(self, d: Dir, prefix: usize, segs: [u16; 8]) -> bool
+        ensures { result ≡ R.reads_primitive self.entry.link self.entry.frame.now (Net6 d prefix segs) }
+    {
+        if !self.kind(IPV6) {
+            return false;
+        }
+        let n = self.network_start();
+        let source = self.segments_agree(prefix, n + 8, segs);
+        let destination = self.segments_agree(prefix, n + 24, segs);
+        sides(d, source, destination)
+    }
+
+    // ---- ports
+
+    // The source port at a place, and the destination port behind it.
+    fn ports(self, at: usize, p: Ports) -> bool
+        requires { at < 60000 }
+        ensures { result ≡ R.sides p.dir (ranged p.low p.high (R.h self.entry.frame.now at)) (ranged p.low p.high (R.h self.entry.frame.now (at + 2))) }
+    {
+        sides(p.dir, p.within(self.half(at)), p.within(self.half(at + 2)))
+    }
+
+    // Over IPv4: not in a later fragment, and behind a header of 4 times its length field.
+    #[tactic(auto, using(std::proofs::lemmas::Bool::Decides::nat_tests), unfolding(crate::specs::Promise::over_ipv4))]
+    fn port4(self, p: Ports) -> bool
+        ensures { result ≡ over_ipv4 self.entry.link self.entry.frame.now p }
+    {
+        let n = self.network_start();
+        if !self.kind(IPV4)
+            || !in_set(p.protocol, self.byte(n + 9))
+            || self.half(n + 6) % 8192 != 0
+        {
+            return false;
+        }
+        self.ports(n + 4 * (usize::from(self.byte(n)) % 16), p)
+    }
+
+    // Over IPv6, behind its 40 bytes. Fragments are not looked at, so it is apart from `port4`.
+    #[tactic(auto, using(std::proofs::lemmas::Bool::Decides::nat_tests), unfolding(crate::specs::Promise::over_ipv6))]
+    fn port6(self, p: Ports) -> bool
+        ensures { result ≡ over_ipv6 self.entry.link self.entry.frame.now p }
+    {
+        let n = self.network_start();
+        if !self.kind(IPV6) || !in_set(p.protocol, self.byte(n + 6)) {
+            return false;
+        }
+        self.ports(n + 40, p)
+    }
+
+    #[tactic(auto, unfolding(direct::specs::Reading::transport, crate::specs::Promise::over_ipv4, crate::specs::Promise::over_ipv6))]
+    fn port_range(self, p: Ports) -> bool
+        ensures { result ≡ R.transport self.entry.link self.entry.frame.now (R.port_set p.protocol) (R.port_test self.entry.link self.entry.frame.now p.dir (ranged p.low p.high)) }
+    {
+        self.port4(p) || self.port6(p)
+    }
+
+    // ---- the link's addresses
+
+    fn bytes_are(self, at: usize, address: [u8; 6]) -> bool
+        requires { at < 60000 }
+        ensures { result ≡ R.bytes_are self.entry.frame.now at address }
+    {
+        for (i, b) in address.iter().enumerate() {
+            if self.byte(at + i) != *b {
+                return false;
+            }
+        }
+        true
+    }
+
+    // The source's address, or the sender's in a cooked capture, whose length has to be 6.
+    fn from_station(self, address: [u8; 6]) -> bool
+        ensures { result ≡ R.from_station self.entry.link self.entry.frame.now address }
+    {
+        match self.link {
+            LinkType::Ethernet | LinkType::RawIp => self.bytes_are(6, address),
+            LinkType::LinuxSll => self.half(4) == 6 && self.bytes_are(6, address),
+        }
+    }
+
+    // A cooked capture has no destination address.
+    fn to_station(self, address: [u8; 6]) -> bool
+        ensures { result ≡ R.to_station self.entry.link self.entry.frame.now address }
+    {
+        match self.link {
+            LinkType::Ethernet | LinkType::RawIp => self.bytes_are(0, address),
+            LinkType::LinuxSll => false,
+        }
+    }
+
+    #[tactic(auto, unfolding(direct::specs::Reading::reads_primitive))]
+    fn ether_host(self, d: Dir, address: [u8; 6]) -> bool
+        ensures { result ≡ R.reads_primitive self.entry.link self.entry.frame.now (EtherHost d address) }
+    {
+        sides(d, self.from_station(address), self.to_station(address))
+    }
+
+    // The first byte is odd. A cooked capture has no destination address.
+    #[tactic(auto, unfolding(direct::specs::Reading::reads_primitive))]
+    fn ether_multicast(self) -> bool
+        ensures { result ≡ R.reads_primitive self.entry.link self.entry.frame.now EtherMulticast }
+    {
+        match self.link {
+            LinkType::Ethernet | LinkType::RawIp => self.byte(0) % 2 == 1,
+            LinkType::LinuxSll => false,
+        }
+    }
+
+    // ---- destinations of many
+
+    #[tactic(auto, unfolding(direct::specs::Reading::reads_primitive))]
+    fn ip_broadcast(self) -> bool
+        ensures { result ≡ R.reads_primitive self.entry.link self.entry.frame.now IpBroadcast }
+    {
+        self.kind(IPV4) && self.word(self.network_start() + 16) == 0xffff_ffff
+    }
+
+    // The top bits are 1110.
+    #[tactic(auto, unfolding(direct::specs::Reading::reads_primitive))]
+    fn ip_multicast(self) -> bool
+        ensures { result ≡ R.reads_primitive self.entry.link self.entry.frame.now IpMulticast }
+    {
+        self.kind(IPV4) && self.word(self.network_start() + 16) >> 28 == 0b1110
+    }
+
+    #[tactic(auto, unfolding(direct::specs::Reading::reads_primitive))]
+    fn ip6_multicast(self) -> bool
+        ensures { result ≡ R.reads_primitive self.entry.link self.entry.frame.now Ip6Multicast }
+    {
+        self.carries(IPV6, 24, 0xff)
+    }
+
+    // ---- the tree
+
+    #[tactic(auto, using(crate::proofs::Conditions::port_reads, crate::proofs::Conditions::host_reads), unfolding(direct::specs::Reading::reads_primitive))]
+    fn eval_primitive(self, p: Primitive) -> bool
+        ensures { result ≡ R.reads_primitive self.entry.link self.entry.frame.now p }
+    {
+        match p {
+            Primitive::Protocol(protocol) => self.protocol(protocol),
+            Primitive::Host4(d, a) => self.net4(d, a, u32::MAX),
+            Primitive::Host6(d, segs) => self.net6(d, 128, segs),
+            Primitive::Net(d, a, mask) => self.net4(d, a, mask),
+            Primitive::Net6(d, prefix, segs) => self.net6(d, usize::from(prefix), segs),
+            Primitive::Port(dir, protocol, k) => self.port_range(Ports {
+                dir,
+                protocol,
+                low: k,
+                high: k,
+            }),
+            Primitive::PortRange(dir, protocol, low, high) => self.port_range(Ports {
+                dir,
+                protocol,
+                low,
+                high,
+            }),
+            Primitive::EtherHost(d, address) => self.ether_host(d, address),
+            Primitive::EtherProto(v) => self.kind(v),
+            Primitive::EtherMulticast => self.ether_multicast(),
+            Primitive::IpBroadcast => self.ip_broadcast(),
+            Primitive::IpMulticast => self.ip_multicast(),
+            Primitive::Ip6Multicast => self.ip6_multicast(),
+            Primitive::IpProtoChain(p) => self.ipv4(p),
+            Primitive::Ip6ProtoChain(p) => self.ipv6(p),
+        }
+    }
+
+    // Each join reads its parts by `eval_node`, which reads each join by its function, at fewer records left.
+    // Document 01 has a function for each join.
+    #[cycle(nodes)]
+    fn eval_and(self, tree: &[u8], i: usize) -> Read
+        requires { Here tree.now i × (node_at (place i) tree.now ≡ Ok AndNode) }
+        ensures { Says self.entry.link self.entry.frame.now tree.now i result }
+    {
+        let left = self.eval_node(tree, i + 1);
+        let right = self.eval_node(tree, left.next);
+        Read {
+            value: left.value && right.value,
+            next: right.next,
+        }
+    }
+
+    #[cycle(nodes)]
+    fn eval_or(self, tree: &[u8], i: usize) -> Read
+        requires { Here tree.now i × (node_at (place i) tree.now ≡ Ok OrNode) }
+        ensures { Says self.entry.link self.entry.frame.now tree.now i result }
+    {
+        let left = self.eval_node(tree, i + 1);
+        let right = self.eval_node(tree, left.next);
+        Read {
+            value: left.value || right.value,
+            next: right.next,
+        }
+    }
+
+    #[cycle(nodes)]
+    fn eval_not(self, tree: &[u8], i: usize) -> Read
+        requires { Here tree.now i × (node_at (place i) tree.now ≡ Ok NotNode) }
+        ensures { Says self.entry.link self.entry.frame.now tree.now i result }
+    {
+        let part = self.eval_node(tree, i + 1);
+        Read {
+            value: !part.value,
+            next: part.next,
+        }
+    }
+
+    // The tree at record i.
+    #[cycle(nodes)]
+    fn eval_node(self, tree: &[u8], i: usize) -> Read
+        requires { Here tree.now i }
+        ensures { Says self.entry.link self.entry.frame.now tree.now i result }
+    {
+        match reader::node(tree, i) {
+            Node::AndNode => self.eval_and(tree, i),
+            Node::OrNode => self.eval_or(tree, i),
+            Node::NotNode => self.eval_not(tree, i),
+            Node::LeafNode(p) => Read {
+                value: self.eval_primitive(p),
+                next: i + 1,
+            },
+        }
     }
 }
 
 // Refusals 1 to 4 of the file, then 10 of the frame, or what the whole tree says of the frame.
-pub fn direct_reading(tree: &[u8], frame: &[u8]) -> DirectResult
+pub fn direct_reading(tree: &[u8], frame: &[u8]) -> Result<bool, Refusal>
     ensures { result ≡ direct tree.now frame.now }
 {
-    let checked = check(tree);
-    match checked {
-        Checked::Refused(r) => DirectResult::Refused(r),
-        Checked::Link(link) => {
-            if 65535 < frame.len() {
-                DirectResult::Refused(Refusal::LongFrame)
-            } else {
-                let r = eval_node(tree, 0, link, frame);
-                DirectResult::Is(r.value)
-            }
-        }
+    let link = reader::check(tree)?;
+    if 65535 < frame.len() {
+        return Err(Refusal::LongFrame);
     }
+    let packet = Packet { link, frame };
+    Ok(packet.eval_node(tree, 0).value)
 }

@@ -1,20 +1,20 @@
 -- A tree that stands at a record: its parts stand at the records after it.
+use Rattle.std.specs.Prelude.{Ok, Err}
 use Prim.Native.Nat.{ℕ, zero, suc, ◌+◌, ◌*◌, ◌-◌, ◌≤◌, ◌<◌}
 use mathlib.Core.Path.{◌≡◌, refl, sym, ap, ap₂, ◌∙◌, subst}
 use mathlib.Core.List.{List, [], ◌∷◌}
 use native.Mathlib.Omega.{arith}
 use lib.ListN.{length}
-use borrow.Author.Tests.{ne_eqb}
-use Rattle.error.specs.Answer.{Out, refused, done, ◌>>=◌}
-use Rattle.bpf.specs.Bytes.{be}
+use Rattle.error.specs.Answer.{Out, ◌>>=◌}
 use Rattle.ast.specs.Tree.{Expr, Leaf, And, Or, Not, records}
-use Rattle.ast.specs.Record.{record_at, Node, AndNode, OrNode, NotNode, LeafNode, kinds, node_at}
+use Rattle.ast.specs.declared.Node.{Node}
+use Rattle.ast.specs.declared.Node.TheVariants.{AndNode, OrNode, NotNode, LeafNode}
+use Rattle.ast.specs.declared.Primitive.{Primitive}
+use Rattle.ast.specs.Record.{node_at}
 use Rattle.ast.specs.File.{count_of, nodes_at, trees_of}
 use Rattle.ast.proofs.Prefix.{prefixes, prefixes_of, trees_prefixes}
 use Rattle.ast.proofs.Walk.{node, parts, Stands, stands_none, stands_first, stands_rest}
-use Rattle.reader.specs.Reader.{place, forest, tree_of, end_of, condition_of, leaf_at, Here, LeafHere}
-use Rattle.reader.specs.Checking.{parts_of}
-use Rattle.reader.proofs.Nodes.{asks, node_asks, kind_by, node_is}
+use Rattle.reader.specs.Reader.{place, forest, tree_of, end_of, Here}
 
 pub record TwoParts (join : Expr → Expr → Expr) (s : List ℕ) (i : ℕ) : Type 0 where
   pub tree : tree_of s i ≡ join (tree_of s (i + 1)) (tree_of s (end_of s (i + 1)))
@@ -27,10 +27,9 @@ pub record OnePart (s : List ℕ) (i : ℕ) : Type 0 where
   pub end : end_of s i ≡ end_of s (i + 1)
   pub part : Here s (i + 1)
 
-pub record NoPart (s : List ℕ) (i : ℕ) : Type 0 where
-  pub tree : tree_of s i ≡ Leaf (leaf_at s i)
+pub record NoPart (p : Primitive) (s : List ℕ) (i : ℕ) : Type 0 where
+  pub tree : tree_of s i ≡ Leaf p
   pub end : end_of s i ≡ i + 1
-  pub leaf : LeafHere s i
 
 -- ---- the trees from a record on
 
@@ -51,7 +50,7 @@ pub restand : {s : List ℕ} {n m at to : ℕ} {ts : List Expr} → n ≡ m → 
 restand {s} p q h = record { nodes = ap₂ (λ k a. nodes_at k a s) (sym p) (sym q) ∙ h.nodes }
 
 module _ {s : List ℕ} {i : ℕ} {ts : List Expr} where
-  from_forest : From s i ts → forest s i ≡ done ts
+  from_forest : From s i ts → forest s i ≡ Ok ts
   unfolding forest
   from_forest h = rw (h.stands.nodes, trees_prefixes ts)
 
@@ -64,7 +63,7 @@ module _ {s : List ℕ} {i : ℕ} {t : Expr} {ts : List Expr} where
   unfolding end_of
   from_end h = ap (λ u. i + records u) (from_tree h)
 
-  from_node : From s i (t ∷ ts) → node_at (place i) s ≡ done (node t)
+  from_node : From s i (t ∷ ts) → node_at (place i) s ≡ Ok (node t)
   from_node h = (stands_first h.stands).1
 
   -- the parts, and what follows the tree
@@ -89,12 +88,12 @@ module _ {s : List ℕ} {i : ℕ} {t : Expr} {ts : List Expr} where
         ends = omega (arith, k.0, from_end h, h.last);
         later = omega (arith, positive t, from_end h);
         rest = ts;
-        stands = from_forest h ∙ ap (λ u. done (u ∷ ts)) (sym (from_tree h));
+        stands = from_forest h ∙ ap (λ u. Ok (u ∷ ts)) (sym (from_tree h));
       }
 
-read : (o : Out (List Node)) (ts : List Expr) → (o >>= trees_of) ≡ done ts → o ≡ done (prefixes ts)
-read (refused r) ts e = absurd (let z : ◌≡◌ {A = ℕ} 0 1 = cc in omega arith)
-read (done ns) ts e = ap done (prefixes_of ns ts e)
+read : (o : Out (List Node)) (ts : List Expr) → (o >>= trees_of) ≡ Ok ts → o ≡ Ok (prefixes ts)
+read (Err r) ts e = cc
+read (Ok ns) ts e = ap Ok (prefixes_of ns ts e)
 
 module _ {s : List ℕ} {i : ℕ} where
   here_from : (h : Here s i) → From s i (tree_of s i ∷ h.rest)
@@ -114,10 +113,7 @@ here_each {s} (suc i) h l =
     let e : i + 1 ≡ suc i = omega arith in
     subst (Here s) e (first_here (parts (tree_of s i) k.rest) (from_first (here_from k)) (omega arith))
 
--- ---- by the kind of a record
-
-never : {A : Type 0} → ◌≡◌ {A = ℕ} 0 1 → A
-never e = absurd (omega arith)
+-- ---- by the node of a record
 
 module _ {s : List ℕ} {i : ℕ} {ts : List Expr} where
   two_parts : (join : Expr → Expr → Expr) {l r : Expr} → (records (join l r) ≡ suc (records l + records r))
@@ -132,59 +128,47 @@ module _ {s : List ℕ} {i : ℕ} {ts : List Expr} where
       }
 
   tree_and : (t : Expr) → From s i (t ∷ ts) → node t ≡ AndNode → TwoParts And s i
-  tree_and (Leaf p) h e = never cc
+  tree_and (Leaf p) h e = cc
   tree_and (And l r) h e = two_parts And refl h (from_first h)
-  tree_and (Or l r) h e = never cc
-  tree_and (Not t) h e = never cc
+  tree_and (Or l r) h e = cc
+  tree_and (Not t) h e = cc
 
   tree_or : (t : Expr) → From s i (t ∷ ts) → node t ≡ OrNode → TwoParts Or s i
-  tree_or (Leaf p) h e = never cc
-  tree_or (And l r) h e = never cc
+  tree_or (Leaf p) h e = cc
+  tree_or (And l r) h e = cc
   tree_or (Or l r) h e = two_parts Or refl h (from_first h)
-  tree_or (Not t) h e = never cc
+  tree_or (Not t) h e = cc
 
   tree_not : (t : Expr) → From s i (t ∷ ts) → node t ≡ NotNode → OnePart s i
-  tree_not (Leaf p) h e = never cc
-  tree_not (And l r) h e = never cc
-  tree_not (Or l r) h e = never cc
+  tree_not (Leaf p) h e = cc
+  tree_not (And l r) h e = cc
+  tree_not (Or l r) h e = cc
   tree_not (Not t) h e =
       let k = from_first h in
       record { tree = from_tree h ∙ ap Not (sym (from_tree k)); end = omega (arith, from_end h, from_end k); part = from_here k }
 
-  tree_leaf : (t : Expr) → From s i (t ∷ ts) → asks (node t) ≡ 0 → NoPart s i
-  unfolding leaf_at
-  tree_leaf (Leaf p) h e =
-      let w = from_here h in
-      record {
-        tree = from_tree h ∙ ap (λ o. Leaf (condition_of o)) (sym (from_node h));
-        end = from_end h;
-        leaf = record { within = w.within; most = w.most; whole = w.whole; node = from_node h ∙ ap (λ o. done (LeafNode (condition_of o))) (sym (from_node h)) };
-      }
-  tree_leaf (And l r) h e = absurd (omega arith)
-  tree_leaf (Or l r) h e = absurd (omega arith)
-  tree_leaf (Not t) h e = absurd (omega arith)
-
-no_parts : (k : ℕ) → (k ≡ 1 → ⊥) → (k ≡ 2 → ⊥) → (k ≡ 3 → ⊥) → parts_of k ≡ 0
-unfolding parts_of
-no_parts k a b c = simp (ne_eqb k 1 a, ne_eqb k 2 b, ne_eqb k 3 c)
+  tree_leaf : (t : Expr) {p : Primitive} → From s i (t ∷ ts) → node t ≡ LeafNode p → NoPart p s i
+  tree_leaf (Leaf p) h e = record { tree = from_tree h ∙ ap Leaf cc; end = from_end h }
+  tree_leaf (And l r) h e = cc
+  tree_leaf (Or l r) h e = cc
+  tree_leaf (Not t) h e = cc
 
 module _ {s : List ℕ} {i : ℕ} (h : Here s i) where
-  -- the node of the tree's record, where its kind is n
-  node_of : (n : ℕ) → be 1 (place i) s ≡ n → (kind_by kinds n).node (record_at (place i) s) ≡ node (tree_of s i)
-  node_of n k = (node_is n s (place i) (node (tree_of s i)) (from_node (here_from h)) k).node
+  -- the node of the tree's record
+  pub here_node : node_at (place i) s ≡ Ok (node (tree_of s i))
+  here_node = from_node (here_from h)
 
-  pub here_and : be 1 (place i) s ≡ 1 → TwoParts And s i
-  unfolding kind_by
-  here_and k = tree_and (tree_of s i) (here_from h) (sym (node_of 1 k))
+  same_node : {x : Node} → node_at (place i) s ≡ Ok x → node (tree_of s i) ≡ x
+  same_node e = let n = here_node in cc
 
-  pub here_or : be 1 (place i) s ≡ 2 → TwoParts Or s i
-  unfolding kind_by
-  here_or k = tree_or (tree_of s i) (here_from h) (sym (node_of 2 k))
+  pub here_and : node_at (place i) s ≡ Ok AndNode → TwoParts And s i
+  here_and e = tree_and (tree_of s i) (here_from h) (same_node e)
 
-  pub here_not : be 1 (place i) s ≡ 3 → OnePart s i
-  unfolding kind_by
-  here_not k = tree_not (tree_of s i) (here_from h) (sym (node_of 3 k))
+  pub here_or : node_at (place i) s ≡ Ok OrNode → TwoParts Or s i
+  here_or e = tree_or (tree_of s i) (here_from h) (same_node e)
 
-  pub here_leaf : (be 1 (place i) s ≡ 1 → ⊥) → (be 1 (place i) s ≡ 2 → ⊥) → (be 1 (place i) s ≡ 3 → ⊥) → NoPart s i
-  here_leaf a b c =
-      tree_leaf (tree_of s i) (here_from h) (node_asks s (place i) _ (from_node (here_from h)) ∙ no_parts (be 1 (place i) s) a b c)
+  pub here_not : node_at (place i) s ≡ Ok NotNode → OnePart s i
+  here_not e = tree_not (tree_of s i) (here_from h) (same_node e)
+
+  pub here_leaf : {p : Primitive} → node_at (place i) s ≡ Ok (LeafNode p) → NoPart p s i
+  here_leaf e = tree_leaf (tree_of s i) (here_from h) (same_node e)

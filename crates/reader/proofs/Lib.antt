@@ -1,11 +1,8 @@
 pub mod Zeros
 pub mod Fields
-pub mod Nodes
-pub mod Rows
+pub mod Marks
+pub mod Found
 pub mod Here
-pub mod ByKind
-pub mod Heads
 pub mod Forests
-pub mod Bodies
 pub mod Checks
-pub mod Firsts
+pub mod Rows

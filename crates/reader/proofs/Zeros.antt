@@ -2,7 +2,6 @@
 use Prim.Native.Nat.{ℕ, zero, suc, ◌+◌, ◌*◌, ◌^◌, ◌≤◌}
 use mathlib.Core.Path.{◌≡◌, refl, sym, ap, ◌∙◌}
 use mathlib.Core.List.{List, [], ◌∷◌}
-use mathlib.Core.Bool.{false}
 use native.Mathlib.Omega.{arith}
 use native.Mathlib.Nat.{add-zero, add-suc, mul-one, suc-mul, pow-suc}
 use lib.ListN.{get_or}
@@ -35,17 +34,18 @@ small zero w b v is h e = is
 small (suc a) w b v is h e = absurd (omega (arith, suc-mul a w))
 
 -- v is the number of m bytes before n others
-module _ (m n at next : ℕ) (s : List ℕ) {v : ℕ} (is : v ≡ be m at s) (follows : next ≡ at + m) where
+module _ (m n at : ℕ) (s : List ℕ) {v : ℕ} (is : v ≡ be m at s) where
   -- where it is zero, the others tell
-  pub zero_then : v ≡ 0 → eqb (be n next s) 0 ≡ eqb (be (m + n) at s) 0
-  zero_then e =
+  pub zero_then : {next : ℕ} → next ≡ at + m → v ≡ 0 → eqb (be n next s) 0 ≡ eqb (be (m + n) at s) 0
+  zero_then {next} follows e =
       let z : be m at s ≡ 0 = sym is ∙ e in
       let j : be (m + n) at s ≡ be n next s = rw (be_join m n at s, z, follows) (omega arith) in
       rw j
 
-  pub zero_not : (v ≡ 0 → ⊥) → false ≡ eqb (be (m + n) at s) 0
+  pub zero_not : (v ≡ 0 → ⊥) → eqb v 0 ≡ eqb (be (m + n) at s) 0
   zero_not e =
-      sym (ne_eqb _ 0 (λ z. e (small (be m at s) (256 ^ n) (be n (at + m) s) v is (positive n) (sym (be_join m n at s) ∙ z))))
+      ne_eqb v 0 e
+      ∙ sym (ne_eqb _ 0 (λ z. e (small (be m at s) (256 ^ n) (be n (at + m) s) v is (positive n) (sym (be_join m n at s) ∙ z))))
 
 -- eight segments, each by itself
 pub eight : (at : ℕ) (s : List ℕ)

@@ -1,74 +1,94 @@
 -- The checks as the functions of the code share them out. These are promises between the functions; what `check` answers is said
 -- without them, by `parse`.
-use Rattle.std.specs.Prelude.{ℕ, ◌+◌, ◌*◌, ◌-◌, ◌≤◌, ◌≡◌, List, [], ◌∷◌, Bool, true, false, cond, ◌&&◌, ◌||◌, length, eqb, leb}
-use Rattle.error.specs.Answer.{Out, refused, done, ◌>>=◌}
+use Rattle.std.specs.Prelude.{Ok, Err}
+use Rattle.std.specs.Prelude.{ℕ, ◌+◌, ◌*◌, ◌-◌, ◌≤◌, ◌≡◌, List, [], ◌∷◌, Bool, cond, ◌&&◌, ◌||◌, length, eqb, leb}
+use Rattle.error.specs.declared.Refusal.TheVariants.{BadRecord}
+use Rattle.error.specs.Answer.{Out, ◌>>=◌}
 use Rattle.bpf.specs.Bytes.{be}
-use Rattle.ast.specs.declared.LinkType.{LinkType}
-use Rattle.ast.specs.Record.{Record, D, P, S, A, B, Kind, kinds, member, numbered}
-use Rattle.ast.specs.File.{count_of, count, nodes_at, trees_of, only, Filter}
-use Rattle.reader.specs.declared.Checked.{Checked}
-use Rattle.reader.specs.declared.Checked.TheVariants.{Link, Refused}
+use Rattle.ast.specs.declared.Node.{Node}
+use Rattle.ast.specs.declared.Node.TheVariants.{AndNode, OrNode, NotNode, LeafNode}
+use Rattle.ast.specs.Record.{Record, record_at, D, P, S, A, B, kinds, member, numbered}
+use Rattle.ast.specs.Record as R
+use Rattle.ast.specs.Tree.{Expr}
+use Rattle.ast.specs.File.{count_of, nodes_at, only}
+use Rattle.reader.specs.declared.Kind.{Kind}
+use Rattle.reader.specs.declared.Kind.TheVariants.{And, Or, Not, Protocol, Host4, Host6, Net, Net6, Port, PortRange, EtherHost, EtherProto, EtherMulticast, IpBroadcast, IpMulticast, Ip6Multicast, IpProtoChain, Ip6ProtoChain}
 use Rattle.reader.specs.declared.Most.{Most}
-use Rattle.reader.specs.Reader.{forest}
+use Rattle.reader.specs.declared.RecordReader.{RecordReader}
+use Rattle.reader.specs.Reader.{place, forest}
 
--- there is a value
-abbrev pub is_done : {A : Type 0} → Out A → Bool
-is_done (refused r) = false
-is_done (done a) = true
+-- ---- kinds
 
--- ---- number 1
+abbrev pub all : List Kind
+all =
+    And ∷ Or ∷ Not ∷ Protocol ∷ Host4 ∷ Host6 ∷ Net ∷ Net6 ∷ Port ∷ PortRange ∷ EtherHost ∷ EtherProto ∷ EtherMulticast ∷ IpBroadcast ∷ IpMulticast
+    ∷ Ip6Multicast ∷ IpProtoChain ∷ Ip6ProtoChain ∷ []
 
--- the mark and the version
-unfoldable pub marks : List ℕ → Bool
-marks s = eqb (be 3 0 s) 0x504654 && eqb (be 2 3 s) 1
+-- document 01's row of a number
+abbrev pub row_among : List R.Kind → ℕ → R.Kind
+row_among [] n = R.kind 0 [] 0 (λ r. AndNode)
+row_among (k ∷ ks) n = cond (eqb n k.number) k (row_among ks n)
 
--- the answer of the header alone
-abbrev pub linked : Out LinkType → Checked
-linked (refused r) = Refused r
-linked (done l) = Link l
+abbrev pub row_of : ℕ → R.Kind
+row_of n = row_among kinds n
 
--- what is read after the header
-unfoldable pub body : LinkType → List ℕ → Out Filter
-body l s = do
-  n ← count s
-  nodes ← nodes_at n 8 s
-  trees ← trees_of nodes
-  tree ← only trees
-  done (record { link = l; tree = tree })
+-- and of a kind
+abbrev pub row : Kind → R.Kind
+row And = row_of 1
+row Or = row_of 2
+row Not = row_of 3
+row Protocol = row_of 10
+row Host4 = row_of 11
+row Host6 = row_of 12
+row Net = row_of 13
+row Net6 = row_of 14
+row Port = row_of 15
+row PortRange = row_of 16
+row EtherHost = row_of 17
+row EtherProto = row_of 18
+row EtherMulticast = row_of 19
+row IpBroadcast = row_of 20
+row IpMulticast = row_of 21
+row Ip6Multicast = row_of 22
+row IpProtoChain = row_of 23
+row Ip6ProtoChain = row_of 24
 
--- ---- number 3
+-- the kind of a number among some
+abbrev pub kind_among : List Kind → ℕ → Out Kind
+kind_among [] n = Err BadRecord
+kind_among (k ∷ ks) n = cond (eqb n (row k).number) (Ok k) (kind_among ks n)
 
--- the most that a record of a kind may hold in its fields, and the bytes of its address; an unknown kind may hold nothing
-abbrev pub most_for : Kind → Most
+abbrev pub kind_of : ℕ → Out Kind
+kind_of n = kind_among all n
+
+-- the most that a record of a kind may hold in its fields, and the bytes of its address
+abbrev pub most_for : R.Kind → Most
 most_for k =
     record {
-      0 = cond (member D k.uses) 3 0;
-      1 = cond (member P k.uses) 12 0;
-      2 = cond (member S k.uses) 255 0;
-      3 = cond (member A k.uses) 65535 0;
-      4 = cond (member B k.uses) 65535 0;
-      5 = k.address;
+      direction = cond (member D k.uses) 3 0;
+      protocol = cond (member P k.uses) 12 0;
+      small = cond (member S k.uses) 255 0;
+      a = cond (member A k.uses) 65535 0;
+      b = cond (member B k.uses) 65535 0;
+      address = k.address;
     }
 
-unfoldable pub most_by : List Kind → ℕ → Most
-most_by [] n = record { 0 = 0; 1 = 0; 2 = 0; 3 = 0; 4 = 0; 5 = 255 }
-most_by (k ∷ ks) n = cond (eqb n k.number) (most_for k) (most_by ks n)
+-- a direction, and so many bytes of the address
+abbrev pub addressed : ℕ → Most
+addressed n = record { direction = 3; protocol = 0; small = 0; a = 0; b = 0; address = n }
 
-abbrev pub most_of : ℕ → Most
-most_of n = most_by kinds n
+-- how many parts a node asks for
+abbrev pub asks : Node → ℕ
+asks AndNode = 2
+asks OrNode = 2
+asks NotNode = 1
+asks (LeafNode p) = 0
 
--- the small number is at most so much, or the protocol lets it be any
-unfoldable pub small_fits : ℕ → ℕ → ℕ → Bool
-small_fits p n m = numbered p || leb n m
+-- ---- records
 
--- the fields hold no more than the most
-unfoldable pub fits : Most → Record → Bool
-fits m r =
-    leb r.direction m.0
-    && (leb r.protocol m.1
-    && (leb r.a m.3
-    && (leb r.b m.4
-    && small_fits r.protocol r.small m.2)))
+-- the numbers of a record
+abbrev pub fields : RecordReader → Record
+fields r = record_at (place r.index) r.tree.now
 
 -- how many bytes of its address a kind may use
 abbrev pub lengths : List ℕ
@@ -78,19 +98,30 @@ lengths = 0 ∷ 4 ∷ 6 ∷ 8 ∷ 16 ∷ []
 unfoldable pub unused : ℕ → List ℕ → Bool
 unused n x = member n lengths && eqb (be (16 - n) n x) 0
 
--- ---- number 4
+-- a record holds no more than the most; "11 and 12 use byte 3"
+unfoldable pub fits : Most → Record → Bool
+fits m r =
+    leb r.direction m.direction
+    && (leb r.protocol m.protocol
+    && (leb r.a m.a
+    && (leb r.b m.b
+    && ((numbered r.protocol || leb r.small m.small)
+    && unused m.address r.address))))
 
--- how many parts a record of this kind asks for
-unfoldable pub parts_of : ℕ → ℕ
-parts_of k = cond (eqb k 1 || eqb k 2) 2 (cond (eqb k 3) 1 0)
+-- ---- the whole file
+
+-- an answer without its value
+abbrev pub passed : {A : Type 0} → Out A → Out (Unit {0})
+passed (Err r) = Err r
+passed (Ok a) = Ok tt
+
+-- its records are one tree
+unfoldable pub whole_tree : List ℕ → Out Expr
+whole_tree s = forest s 0 >>= only
 
 -- a file of n records that are all good
 pub record Good (s : List ℕ) (n : ℕ) : Type 0 where
   pub count : n ≡ count_of s
   pub most : n ≤ 128
   pub whole : length s ≡ 8 + 24 * n
-  pub nodes : is_done (nodes_at n 8 s) ≡ true
-
--- its records are one tree
-unfoldable pub is_one : List ℕ → Bool
-is_one s = is_done (forest s 0 >>= only)
+  pub nodes : passed (nodes_at n 8 s) ≡ Ok tt

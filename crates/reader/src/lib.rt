@@ -1,398 +1,527 @@
-// The tree file: its numbers, and checks 1 to 4.
+// The tree file: its records, what each stands for, and checks 1 to 4.
 #![tactic(auto)]
 
-ghost use Rattle.std.specs.Prelude.{◌≡◌, not, ◌&&◌, ◌||◌, ◌+◌, ◌*◌, ◌≤◌, ◌<◌, length, eqb, ltb};
-ghost use Rattle.bpf.specs.Bytes.{be, segments_at, bytes_at};
-ghost use Rattle.ast.specs.Record.{dir_of, record_at, node_at};
+ghost use Rattle.std.specs.Prelude.{◌≡◌, ◌+◌, ◌*◌, ◌≤◌, ◌<◌, length, take, eqb, not, IsOk, ◌&&◌};
+ghost use Rattle.bpf.specs.Bytes.{be, AreBytes, segments_at, bytes_at};
+ghost use Rattle.ast.specs.Record.{dir_of, proto_of, port_proto_of, good, node_at};
+ghost use Rattle.ast.specs.Record as R;
 ghost use Rattle.ast.specs.File as F;
-ghost use Rattle.reader.specs.Reader.{place, checked};
+ghost use Rattle.reader.specs.Reader.{place, Here, checked};
 ghost use Rattle.reader.specs.Checking as C;
 
-use ast::{Dir, LinkType};
+use ast::Node::LeafNode;
+use ast::{Dir, LinkType, Node, Primitive, Proto};
 use error::Refusal;
 
-// The answer of the checks: the file's link, or its refusal.
-#[derive(Clone, Copy)]
-pub enum Checked {
-    Link(LinkType),
-    Refused(Refusal),
+// The bytes of a file's header and of a record.
+const HEADER: usize = 8;
+
+const RECORD: usize = 24;
+
+// The most records of a file.
+const MOST: usize = 128;
+
+// Where the numbers of a record stand: "byte 0 kind; byte 1 direction (..); byte 2 protocol; byte 3 small number; bytes 4-5 A; 6-7 B;
+// 8-23 address."
+const KIND: usize = 0;
+
+const DIRECTION: usize = 1;
+
+const PROTOCOL: usize = 2;
+
+const SMALL: usize = 3;
+
+const A: usize = 4;
+
+const B: usize = 6;
+
+const ADDRESS: usize = 8;
+
+// ---- kinds
+
+// "Kinds, decimal: .."
+#[derive(Clone, Copy, Debug, PartialEq, Eq)]
+enum Kind {
+    And = 1,
+    Or = 2,
+    Not = 3,
+    Protocol = 10,
+    Host4 = 11,
+    Host6 = 12,
+    Net = 13,
+    Net6 = 14,
+    Port = 15,
+    PortRange = 16,
+    EtherHost = 17,
+    EtherProto = 18,
+    EtherMulticast = 19,
+    IpBroadcast = 20,
+    IpMulticast = 21,
+    Ip6Multicast = 22,
+    IpProtoChain = 23,
+    Ip6ProtoChain = 24,
 }
 
-// What a record of some kind may hold: the most for direction, protocol, small number, A and B, 0 where it does not use them;
-// and how many bytes of the address it uses.
+// By a kind byte; number 3, "unknown kind".
+impl TryFrom<u8> for Kind {
+    type Error = Refusal;
+
+    ghost try_from_gives = { λ byte kind. kind ≡ C.kind_of byte };
+
+    fn try_from(byte: u8) -> Result<Kind, Refusal> {
+        match byte {
+            1 => Ok(Kind::And),
+            2 => Ok(Kind::Or),
+            3 => Ok(Kind::Not),
+            10 => Ok(Kind::Protocol),
+            11 => Ok(Kind::Host4),
+            12 => Ok(Kind::Host6),
+            13 => Ok(Kind::Net),
+            14 => Ok(Kind::Net6),
+            15 => Ok(Kind::Port),
+            16 => Ok(Kind::PortRange),
+            17 => Ok(Kind::EtherHost),
+            18 => Ok(Kind::EtherProto),
+            19 => Ok(Kind::EtherMulticast),
+            20 => Ok(Kind::IpBroadcast),
+            21 => Ok(Kind::IpMulticast),
+            22 => Ok(Kind::Ip6Multicast),
+            23 => Ok(Kind::IpProtoChain),
+            24 => Ok(Kind::Ip6ProtoChain),
+            _ => Err(Refusal::BadRecord),
+        }
+    }
+}
+
+// What a record of some kind may hold: the most for each field, 0 where the kind does not use it; and how many bytes of the address it
+// uses.
 #[derive(Clone, Copy)]
-pub struct Most(pub u8, pub u8, pub u8, pub u16, pub u16, pub u8);
+struct Most {
+    direction: u8,
+    protocol: u8,
+    small: u8,
+    a: u16,
+    b: u16,
+    address: usize,
+}
+
+const NOTHING: Most = Most {
+    direction: 0,
+    protocol: 0,
+    small: 0,
+    a: 0,
+    b: 0,
+    address: 0,
+};
+
+// A direction, and so many bytes of the address.
+fn addressed(address: usize) -> Most
+    ensures { result ≡ C.addressed address }
+{
+    Most {
+        direction: 3,
+        address,
+        ..NOTHING
+    }
+}
+
+impl Kind {
+    fn most(self) -> Most
+        ensures { result ≡ C.most_for (C.row self) }
+    {
+        match self {
+            Kind::Protocol => Most {
+                protocol: 12,
+                ..NOTHING
+            },
+            Kind::Host4 => addressed(4),
+            Kind::Host6 => addressed(16),
+            Kind::Net => addressed(8),
+            Kind::Net6 => Most {
+                small: 255,
+                ..addressed(16)
+            },
+            Kind::Port => Most {
+                protocol: 12,
+                a: 65535,
+                ..addressed(0)
+            },
+            Kind::PortRange => Most {
+                protocol: 12,
+                a: 65535,
+                b: 65535,
+                ..addressed(0)
+            },
+            Kind::EtherHost => addressed(6),
+            Kind::EtherProto => Most {
+                a: 65535,
+                ..NOTHING
+            },
+            Kind::IpProtoChain | Kind::Ip6ProtoChain => Most {
+                small: 255,
+                ..NOTHING
+            },
+            _ => NOTHING,
+        }
+    }
+
+    // How many parts a record asks for.
+    fn parts(self) -> usize
+        ensures { (r : R.Record) → result ≡ C.asks ((C.row self).node r) }
+    {
+        match self {
+            Kind::And | Kind::Or => 2,
+            Kind::Not => 1,
+            _ => 0,
+        }
+    }
+}
+
+// ---- records
 
 // A tree file's bytes, lent, and the index of a record.
+// Document 01's form: the bytes and the index.
 #[derive(Clone, Copy)]
 pub struct RecordReader<'a> {
     pub tree: &'a [u8],
     pub index: usize,
 }
 
-// ---- numbers
-
-// The number of two bytes, the high one first.
-fn pair(high: u8, low: u8) -> u16
-    ensures { result ≡ high * 256 + low }
-{
-    high as u16 * 256 + low as u16
-}
-
-// The big-endian number of two bytes.
-fn half(tree: &[u8], at: usize) -> u16
-    requires { at + 2 ≤ length tree.now }
-    ensures { result ≡ be 2 at tree.now }
-{
-    pair(tree[at], tree[at + 1])
-}
-
-// The numbers that start at byte o of record i.
-fn byte_in(tree: &[u8], i: usize, o: usize) -> u8
-    requires { (i < 128) × (o < 24) × (place i + o < length tree.now) }
-    ensures { result ≡ be 1 (place i + o) tree.now }
-{
-    tree[8 + 24 * i + o]
-}
-
-fn half_in(tree: &[u8], i: usize, o: usize) -> u16
-    requires { (i < 128) × (o < 24) × (place i + o + 1 < length tree.now) }
-    ensures { result ≡ be 2 (place i + o) tree.now }
-{
-    half(tree, 8 + 24 * i + o)
-}
-
-// The numbers that start at byte o of the reader's record.
+// The numbers that start at byte o of the record. Whatever is read of a record is read by these two.
 impl<'a> RecordReader<'a> {
+    #[tactic(auto, using(bpf::proofs::Bytes::be_first))]
     pub fn byte(self, o: usize) -> u8
         requires { (self.index < 128) × (o < 24) × (place self.index + o < length self.tree.now) }
         ensures { result ≡ be 1 (place self.entry.index + o) self.entry.tree.now }
     {
-        byte_in(self.tree, self.index, o)
+        self.tree[HEADER + RECORD * self.index + o]
     }
 
     pub fn half(self, o: usize) -> u16
         requires { (self.index < 128) × (o < 24) × (place self.index + o + 1 < length self.tree.now) }
         ensures { result ≡ be 2 (place self.entry.index + o) self.entry.tree.now }
     {
-        half_in(self.tree, self.index, o)
+        bpf::be_u16(self.tree, HEADER + RECORD * self.index + o)
     }
 }
 
-// The same with plain parameters: a reader is made for each number. Whatever is read of a record is read by these two.
-pub fn byte_at(tree: &[u8], i: usize, o: usize) -> u8
-    requires { (i < 128) × (o < 24) × (place i + o < length tree.now) }
-    ensures { result ≡ be 1 (place i + o) tree.now }
-{
-    let r = RecordReader { tree, index: i };
-    r.byte(o)
+// A record that lies whole within its file.
+#[derive(Clone, Copy)]
+struct WholeRecord<'a> {
+    reader: RecordReader<'a>,
+    ghost within: { (reader.index < 128) × (place reader.index + 24 ≤ length reader.tree.now) },
+    ghost bytes: { AreBytes reader.tree.now },
 }
 
-pub fn half_at(tree: &[u8], i: usize, o: usize) -> u16
-    requires { (i < 128) × (o < 24) × (place i + o + 1 < length tree.now) }
-    ensures { result ≡ be 2 (place i + o) tree.now }
-{
-    let r = RecordReader { tree, index: i };
-    r.half(o)
-}
-
-pub fn word_at(tree: &[u8], i: usize, o: usize) -> u32
-    requires { (i < 128) × (o < 22) × (place i + o + 3 < length tree.now) }
-    ensures { result ≡ be 4 (place i + o) tree.now }
-{
-    half_at(tree, i, o) as u32 * 65536 + half_at(tree, i, o + 2) as u32
-}
-
-// The eight segments of record i's address.
-pub fn segments_at(tree: &[u8], i: usize) -> [u16; 8]
-    requires { (i < 128) × (place i + 23 < length tree.now) }
-    ensures { result ≡ segments_at 8 (place i + 8) tree.now }
-{
-    [
-        half_at(tree, i, 8),
-        half_at(tree, i, 10),
-        half_at(tree, i, 12),
-        half_at(tree, i, 14),
-        half_at(tree, i, 16),
-        half_at(tree, i, 18),
-        half_at(tree, i, 20),
-        half_at(tree, i, 22),
-    ]
-}
-
-// The direction of record i.
-pub fn direction(tree: &[u8], i: usize) -> Dir
-    requires { (i < 128) × (place i + 1 < length tree.now) }
-    ensures { result ≡ dir_of (be 1 (place i + 1) tree.now) }
-{
-    match byte_at(tree, i, 1) {
-        1 => Dir::Src,
-        2 => Dir::Dst,
-        3 => Dir::SrcAndDst,
-        _ => Dir::SrcOrDst,
+impl<'a> WholeRecord<'a> {
+    // The number of the four bytes from byte o on.
+    #[tactic(auto, using(crate::proofs::Zeros::be_halves))]
+    fn word(self, o: usize) -> u32
+        requires { o < 21 }
+        ensures { result ≡ be 4 (place self.entry.reader.index + o) self.entry.reader.tree.now }
+    {
+        u32::from(self.reader.half(o)) * 65536 + u32::from(self.reader.half(o + 2))
     }
-}
 
-// ---- number 3
-
-// By kind.
-fn row(kind: u8) -> Most
-    ensures { result ≡ C.most_of kind }
-{
-    match kind {
-        1 => Most(0, 0, 0, 0, 0, 0), // and
-        2 => Most(0, 0, 0, 0, 0, 0), // or
-        3 => Most(0, 0, 0, 0, 0, 0), // not
-        10 => Most(0, 12, 0, 0, 0, 0), // protocol
-        11 => Most(3, 0, 0, 0, 0, 4), // IPv4 host
-        12 => Most(3, 0, 0, 0, 0, 16), // IPv6 host
-        13 => Most(3, 0, 0, 0, 0, 8), // IPv4 net
-        14 => Most(3, 0, 255, 0, 0, 16), // IPv6 net
-        15 => Most(3, 12, 0, 65535, 0, 0), // port
-        16 => Most(3, 12, 0, 65535, 65535, 0), // port range
-        17 => Most(3, 0, 0, 0, 0, 6), // ether host
-        18 => Most(0, 0, 0, 65535, 0, 0), // ether protocol
-        19 => Most(0, 0, 0, 0, 0, 0), // ether multicast
-        20 => Most(0, 0, 0, 0, 0, 0), // ip broadcast
-        21 => Most(0, 0, 0, 0, 0, 0), // ip multicast
-        22 => Most(0, 0, 0, 0, 0, 0), // ip6 multicast
-        23 => Most(0, 0, 255, 0, 0, 0), // protocol chain for IPv4
-        24 => Most(0, 0, 255, 0, 0, 0), // protocol chain for IPv6
-        _ => Most(0, 0, 0, 0, 0, 255), // unknown
+    // The address as an IPv4 address, and the mask behind that.
+    #[tactic(auto, using(crate::proofs::Fields::address_word))]
+    fn host(self) -> u32
+        ensures { result ≡ be 4 0 (C.fields self.entry.reader).address }
+    {
+        self.word(ADDRESS)
     }
-}
 
-// The small number of record i: with the protocols 11 and 12 it may be any.
-fn small_fits(tree: &[u8], i: usize, protocol: u8, most: u8) -> bool
-    requires { (i < 128) × (place i + 3 < length tree.now) }
-    ensures { result ≡ C.small_fits protocol (be 1 (place i + 3) tree.now) most }
-{
-    if protocol == 11 {
-        true
-    } else if protocol == 12 {
-        true
-    } else {
-        byte_at(tree, i, 3) <= most
+    #[tactic(auto, using(crate::proofs::Fields::address_word))]
+    fn mask(self) -> u32
+        ensures { result ≡ be 4 4 (C.fields self.entry.reader).address }
+    {
+        self.word(ADDRESS + 4)
     }
-}
 
-// The fields of record i beside its address.
-fn fields_fit(tree: &[u8], i: usize, most: Most) -> bool
-    requires { (i < 128) × (place i + 7 < length tree.now) }
-    ensures { result ≡ C.fits most (record_at (place i) tree.now) }
-{
-    let protocol = byte_at(tree, i, 2);
-    if most.0 < byte_at(tree, i, 1) {
-        false
-    } else if most.1 < protocol {
-        false
-    } else if most.3 < half_at(tree, i, 4) {
-        false
-    } else if most.4 < half_at(tree, i, 6) {
-        false
-    } else {
-        small_fits(tree, i, protocol, most.2)
+    // The eight segments of an IPv6 address, written out: what `array::from_fn` says of its calls does not give the list.
+    #[tactic(auto, using(crate::proofs::Fields::address_segments))]
+    fn segments(self) -> [u16; 8]
+        ensures { result ≡ segments_at 8 0 (C.fields self.entry.reader).address }
+    {
+        let r = self.reader;
+        [
+            r.half(8),
+            r.half(10),
+            r.half(12),
+            r.half(14),
+            r.half(16),
+            r.half(18),
+            r.half(20),
+            r.half(22),
+        ]
     }
-}
 
-// The last eight bytes of record i are zero.
-fn end_zero(tree: &[u8], i: usize) -> bool
-    requires { (i < 128) × (place i + 23 < length tree.now) }
-    ensures { result ≡ eqb (be 8 (place i + 16) tree.now) 0 }
-{
-    if word_at(tree, i, 16) == 0 {
-        word_at(tree, i, 20) == 0
-    } else {
-        false
+    // The six bytes of an ether address, written out for the same reason.
+    #[tactic(auto, using(crate::proofs::Fields::address_bytes))]
+    fn station(self) -> [u8; 6]
+        ensures { result ≡ take 6 (C.fields self.entry.reader).address }
+    {
+        let r = self.reader;
+        [
+            r.byte(8),
+            r.byte(9),
+            r.byte(10),
+            r.byte(11),
+            r.byte(12),
+            r.byte(13),
+        ]
     }
-}
 
-// And four bytes more, at byte 12.
-fn middle_zero(tree: &[u8], i: usize) -> bool
-    requires { (i < 128) × (place i + 23 < length tree.now) }
-    ensures { result ≡ eqb (be 12 (place i + 12) tree.now) 0 }
-{
-    if word_at(tree, i, 12) == 0 {
-        end_zero(tree, i)
-    } else {
-        false
+    #[tactic(auto, unfolding(ast::specs::Record::record_at))]
+    fn direction(self) -> Dir
+        ensures { result ≡ dir_of (C.fields self.entry.reader).direction }
+    {
+        Dir::from(self.reader.byte(DIRECTION))
     }
-}
 
-// The bytes of record i's address from the n-th on are zero.
-fn unused_zero(tree: &[u8], i: usize, n: u8) -> bool
-    requires { (i < 128) × (place i + 23 < length tree.now) }
-    ensures { result ≡ C.unused n (bytes_at 16 (place i + 8) tree.now) }
-{
-    match n {
-        0 => {
-            if word_at(tree, i, 8) == 0 {
-                middle_zero(tree, i)
-            } else {
-                false
-            }
+    #[tactic(auto, unfolding(ast::specs::Record::record_at))]
+    fn protocol(self) -> Proto
+        ensures { result ≡ proto_of (C.fields self.entry.reader).protocol (C.fields self.entry.reader).small }
+    {
+        Proto::of_bytes(self.reader.byte(PROTOCOL), self.reader.byte(SMALL))
+    }
+
+    #[tactic(auto, unfolding(ast::specs::Record::record_at))]
+    fn small(self) -> u8
+        ensures { result ≡ (C.fields self.entry.reader).small }
+    {
+        self.reader.byte(SMALL)
+    }
+
+    #[tactic(auto, unfolding(ast::specs::Record::record_at))]
+    fn a(self) -> u16
+        ensures { result ≡ (C.fields self.entry.reader).a }
+    {
+        self.reader.half(A)
+    }
+
+    #[tactic(auto, unfolding(ast::specs::Record::record_at))]
+    fn b(self) -> u16
+        ensures { result ≡ (C.fields self.entry.reader).b }
+    {
+        self.reader.half(B)
+    }
+
+    // "Kinds 15 and 16 also take 0, none."
+    #[tactic(auto, unfolding(ast::specs::Record::record_at))]
+    fn port_protocol(self) -> Option<Proto>
+        ensures { result ≡ port_proto_of (C.fields self.entry.reader).protocol (C.fields self.entry.reader).small }
+    {
+        match self.reader.byte(PROTOCOL) {
+            0 => None,
+            _ => Some(self.protocol()),
         }
-        4 => middle_zero(tree, i),
-        6 => {
-            if half_at(tree, i, 14) == 0 {
-                end_zero(tree, i)
-            } else {
-                false
-            }
+    }
+
+    // Its kind, where it is good.
+    fn kind(self) -> Kind
+        requires { IsOk (node_at (place self.reader.index) self.reader.tree.now) }
+        ensures { node_at (place self.entry.reader.index) self.entry.reader.tree.now ≡ Ok ((C.row result).node (C.fields self.entry.reader)) }
+    {
+        Kind::try_from(self.reader.byte(KIND)).unwrap()
+    }
+
+    // The node of a record of this kind.
+    fn node(self, kind: Kind) -> Node
+        ensures { result ≡ (C.row kind).node (C.fields self.entry.reader) }
+    {
+        match kind {
+            Kind::And => Node::AndNode,
+            Kind::Or => Node::OrNode,
+            Kind::Not => Node::NotNode,
+            Kind::Protocol => LeafNode(Primitive::Protocol(self.protocol())),
+            Kind::Host4 => LeafNode(Primitive::Host4(self.direction(), self.host())),
+            Kind::Host6 => LeafNode(Primitive::Host6(self.direction(), self.segments())),
+            Kind::Net => LeafNode(Primitive::Net(self.direction(), self.host(), self.mask())),
+            Kind::Net6 => LeafNode(Primitive::Net6(
+                self.direction(),
+                self.small(),
+                self.segments(),
+            )),
+            Kind::Port => LeafNode(Primitive::Port(
+                self.direction(),
+                self.port_protocol(),
+                self.a(),
+            )),
+            Kind::PortRange => LeafNode(Primitive::PortRange(
+                self.direction(),
+                self.port_protocol(),
+                self.a(),
+                self.b(),
+            )),
+            Kind::EtherHost => LeafNode(Primitive::EtherHost(self.direction(), self.station())),
+            Kind::EtherProto => LeafNode(Primitive::EtherProto(self.a())),
+            Kind::EtherMulticast => LeafNode(Primitive::EtherMulticast),
+            Kind::IpBroadcast => LeafNode(Primitive::IpBroadcast),
+            Kind::IpMulticast => LeafNode(Primitive::IpMulticast),
+            Kind::Ip6Multicast => LeafNode(Primitive::Ip6Multicast),
+            Kind::IpProtoChain => LeafNode(Primitive::IpProtoChain(self.small())),
+            Kind::Ip6ProtoChain => LeafNode(Primitive::Ip6ProtoChain(self.small())),
         }
-        8 => end_zero(tree, i),
-        16 => true,
-        _ => false,
     }
-}
 
-// The kind 10 with no protocol.
-fn lacks_protocol(tree: &[u8], i: usize, kind: u8) -> bool
-    requires { (i < 128) × (place i + 2 < length tree.now) }
-    ensures { result ≡ (eqb kind 10 && eqb (be 1 (place i + 2) tree.now) 0) }
-{
-    if kind == 10 {
-        byte_at(tree, i, 2) == 0
-    } else {
-        false
+    // The last eight bytes are zero.
+    fn end_zero(self) -> bool
+        ensures { result ≡ eqb (be 8 (place self.entry.reader.index + 16) self.entry.reader.tree.now) 0 }
+    {
+        self.word(16) == 0 && self.word(20) == 0
     }
-}
 
-// Number 3 for one record.
-fn good_record(tree: &[u8], i: usize) -> bool
-    requires { (i < 128) × (place i + 23 < length tree.now) }
-    ensures { result ≡ C.is_done (node_at (place i) tree.now) }
-{
-    let kind = byte_at(tree, i, 0);
-    let most = row(kind);
-    if !fields_fit(tree, i, most) {
-        false
-    } else if unused_zero(tree, i, most.5) {
-        !lacks_protocol(tree, i, kind)
-    } else {
-        false
+    // And four bytes more, at byte 12.
+    fn middle_zero(self) -> bool
+        ensures { result ≡ eqb (be 12 (place self.entry.reader.index + 12) self.entry.reader.tree.now) 0 }
+    {
+        self.word(12) == 0 && self.end_zero()
     }
-}
 
-// For all n of them.
-fn good_records(tree: &[u8], n: usize) -> bool
-    requires { (n ≤ 128) × (place n ≤ length tree.now) }
-    ensures { result ≡ C.is_done (F.nodes_at n 8 tree.now) }
-{
-    let mut i = 0;
-    while i < n {
-        if !good_record(tree, i) {
-            return false;
+    // The bytes of its address from the n-th on are zero: word by word, since a chain over the bytes takes up to sixteen steps.
+    fn unused_zero(self, n: usize) -> bool
+        ensures { result ≡ C.unused n (C.fields self.entry.reader).address }
+    {
+        match n {
+            0 => self.word(8) == 0 && self.middle_zero(),
+            4 => self.middle_zero(),
+            6 => self.reader.half(14) == 0 && self.end_zero(),
+            8 => self.end_zero(),
+            16 => true,
+            _ => false,
         }
-        i += 1;
     }
-    true
-}
 
-// ---- number 4
-
-// How many parts a record asks for.
-fn parts(kind: u8) -> usize
-    ensures { (result ≡ C.parts_of kind) × (result ≤ 2) }
-{
-    match kind {
-        1 => 2,
-        2 => 2,
-        3 => 1,
-        _ => 0,
+    // It holds no more than the most; "11 and 12 use byte 3".
+    #[tactic(auto, using(std::proofs::lemmas::Bool::Decides::nat_tests), unfolding(crate::specs::Checking::fits, ast::specs::Record::record_at))]
+    fn fits(self, most: Most) -> bool
+        ensures { result ≡ C.fits most (C.fields self.entry.reader) }
+    {
+        let protocol = self.reader.byte(PROTOCOL);
+        self.reader.byte(DIRECTION) <= most.direction
+            && protocol <= most.protocol
+            && self.a() <= most.a
+            && self.b() <= most.b
+            && (matches!(protocol, 11 | 12) || self.small() <= most.small)
+            && self.unused_zero(most.address)
     }
-}
 
-// From the last record back, the trees that stand so far: a record takes its parts from them and is one more.
-fn one_tree(tree: &[u8], n: usize) -> bool
-    requires { C.Good tree.now n }
-    ensures { result ≡ C.is_one tree.now }
-{
-    let mut i = n;
-    let mut trees: usize = 0;
-    while 0 < i {
-        i -= 1;
-        let asked = parts(byte_at(tree, i, 0));
-        if trees < asked {
-            return false;
+    // "Kinds 15 and 16 also take 0, none.", and kind 10 does not.
+    #[tactic(auto, unfolding(ast::specs::Record::record_at))]
+    fn lacks_protocol(self, kind: Kind) -> bool
+        ensures { result ≡ (eqb (C.row kind).number 10 && eqb (C.fields self.entry.reader).protocol 0) }
+    {
+        matches!(kind, Kind::Protocol) && self.reader.byte(PROTOCOL) == 0
+    }
+
+    // It is good as a record of this kind.
+    #[tactic(auto, using(crate::proofs::Rows::good_fits))]
+    fn good(self, kind: Kind) -> bool
+        ensures { result ≡ good (C.row kind) (C.fields self.entry.reader) }
+    {
+        self.fits(kind.most()) && !self.lacks_protocol(kind)
+    }
+
+    // Number 3.
+    fn check(self) -> Result<(), Refusal>
+        ensures { result ≡ C.passed (node_at (place self.entry.reader.index) self.entry.reader.tree.now) }
+    {
+        let kind = Kind::try_from(self.reader.byte(KIND))?;
+        if self.good(kind) {
+            Ok(())
+        } else {
+            Err(Refusal::BadRecord)
         }
-        trees = trees + 1 - asked;
     }
-    trees == 1
+}
+
+// The node of the record at which a tree stands.
+#[tactic(auto, using(crate::proofs::Here::here_node))]
+pub fn node(tree: &[u8], i: usize) -> Node
+    requires { Here tree.now i }
+    ensures { node_at (place i) tree.now ≡ Ok result }
+{
+    let reader = RecordReader { tree, index: i };
+    let record = WholeRecord { reader };
+    record.node(record.kind())
 }
 
 // ---- the whole file
 
 // The letters PFT and the version 1.
+#[tactic(auto, using(crate::proofs::Marks::starts_pft))]
 fn marked(tree: &[u8]) -> bool
     requires { 8 ≤ length tree.now }
-    ensures { result ≡ C.marks tree.now }
+    ensures { result ≡ not (F.strange tree.now) }
 {
-    if half(tree, 0) != 0x5046 {
-        false
-    } else if tree[2] != 0x54 {
-        false
-    } else {
-        half(tree, 3) == 1
-    }
+    tree.starts_with(b"PFT") && bpf::be_u16(tree, 3) == 1
 }
 
 // Number 1, or the link.
-pub fn header(tree: &[u8]) -> Checked
-    ensures { result ≡ C.linked (F.header tree.now) }
+#[tactic(auto, using(std::proofs::lemmas::Bool::Decides::nat_tests), unfolding(ast::specs::File::header))]
+pub fn header(tree: &[u8]) -> Result<LinkType, Refusal>
+    ensures { result ≡ F.header tree.now }
 {
-    if tree.len() < 8 {
-        Checked::Refused(Refusal::StrangeFile)
-    } else if marked(tree) {
-        match tree[5] {
-            1 => Checked::Link(LinkType::Ethernet),
-            2 => Checked::Link(LinkType::RawIp),
-            3 => Checked::Link(LinkType::LinuxSll),
-            _ => Checked::Refused(Refusal::StrangeFile),
-        }
-    } else {
-        Checked::Refused(Refusal::StrangeFile)
+    if tree.len() < HEADER || !marked(tree) {
+        return Err(Refusal::StrangeFile);
     }
+    LinkType::try_from(tree[5])
 }
 
-// Number 2, of a count and a file's length.
-fn wrong_count(n: usize, size: usize) -> bool
-    requires { n < 65536 }
-    ensures { result ≡ (eqb n 0 || (ltb 128 n || not (eqb size (8 + 24 * n)))) }
-{
-    if n == 0 {
-        true
-    } else if 128 < n {
-        true
-    } else {
-        size != 8 + 24 * n
-    }
-}
-
-// Numbers 2, 3 and 4.
-fn body(tree: &[u8], link: LinkType) -> Checked
+// Number 2, or the count.
+#[tactic(auto, using(std::proofs::lemmas::Bool::Decides::nat_tests), unfolding(ast::specs::File::count))]
+fn count(tree: &[u8]) -> Result<usize, Refusal>
     requires { 8 ≤ length tree.now }
-    ensures { result ≡ checked (C.body link tree.now) }
+    ensures { result ≡ F.count tree.now }
 {
-    let n = half(tree, 6) as usize;
-    if wrong_count(n, tree.len()) {
-        Checked::Refused(Refusal::WrongCount)
-    } else if !good_records(tree, n) {
-        Checked::Refused(Refusal::BadRecord)
-    } else if one_tree(tree, n) {
-        Checked::Link(link)
+    let n = usize::from(bpf::be_u16(tree, 6));
+    if n == 0 || MOST < n || tree.len() != HEADER + RECORD * n {
+        return Err(Refusal::WrongCount);
+    }
+    Ok(n)
+}
+
+// Number 3 over the n records.
+fn good_records(tree: &[u8], n: usize) -> Result<(), Refusal>
+    requires { (n ≤ 128) × (place n ≤ length tree.now) }
+    ensures { result ≡ C.passed (F.nodes_at n 8 tree.now) }
+{
+    for i in 0..n {
+        let reader = RecordReader { tree, index: i };
+        WholeRecord { reader }.check()?;
+    }
+    Ok(())
+}
+
+// Number 4. From the last record back, the trees that stand so far: a record takes its parts from them and is one more.
+fn one_tree(tree: &[u8], n: usize) -> Result<(), Refusal>
+    requires { C.Good tree.now n }
+    ensures { result ≡ C.passed (C.whole_tree tree.now) }
+{
+    let mut trees: usize = 0;
+    for i in (0..n).rev() {
+        let reader = RecordReader { tree, index: i };
+        let asked = WholeRecord { reader }.kind().parts();
+        if trees < asked {
+            return Err(Refusal::NotOneTree);
+        }
+        trees = trees + 1 - asked;
+    }
+    if trees == 1 {
+        Ok(())
     } else {
-        Checked::Refused(Refusal::NotOneTree)
+        Err(Refusal::NotOneTree)
     }
 }
 
 // The link of a file that passes checks 1, 2, 3 and 4, or the first refusal.
-pub fn check(tree: &[u8]) -> Checked
+pub fn check(tree: &[u8]) -> Result<LinkType, Refusal>
     ensures { result ≡ checked (F.parse tree.now) }
 {
-    let head = header(tree);
-    match head {
-        Checked::Refused(r) => Checked::Refused(r),
-        Checked::Link(link) => body(tree, link),
-    }
+    let link = header(tree)?;
+    let n = count(tree)?;
+    good_records(tree, n)?;
+    one_tree(tree, n)?;
+    Ok(link)
 }
