@@ -1,4 +1,6 @@
 -- A generated program in the cleared buffer, against what the definitions leave there.
+use Rattle.std.specs.Prelude.{Ok, Err}
+use Rattle.error.specs.Answer.{Out}
 use Prim.Native.Nat.{ℕ, zero, suc, ◌-◌, ◌*◌, ◌≤◌}
 use mathlib.Core.Path.{◌≡◌, refl, sym, ap, ap₂, ◌∙◌}
 use mathlib.Core.List.{List, ◌++◌}
@@ -9,7 +11,6 @@ use lib.ListN.{length, drop, replicate, length-replicate}
 use lib.Dec.{ltb}
 use Rattle.error.specs.declared.Refusal.{Refusal}
 use Rattle.error.specs.declared.Refusal.TheVariants.{ShortBuffer, CountMoved}
-use Rattle.error.specs.Answer.{refused, done}
 use Rattle.bpf.specs.declared.Insn.{Insn}
 use Rattle.bpf.specs.Bytes.{AreBytes}
 use Rattle.bpf.specs.Program.{program_bytes}
@@ -18,32 +19,27 @@ use Rattle.ast.specs.File.{Filter, parse}
 use Rattle.ast.proofs.Bounds.{parse_proper}
 use Rattle.ast.proofs.Walk.{parse_records}
 use Rattle.codegen.specs.Compile.{compile}
-use Rattle.reader.specs.declared.Checked.TheVariants as K
 use Rattle.reader.specs.Reader.{tree_of, checked}
 use Rattle.reader.proofs.Checks.{check_link, check_refused}
-use Rattle.compile.specs.declared.Compiled.{Compiled}
-use Rattle.compile.specs.declared.Compiled.TheVariants as C
 use Rattle.generate.specs.Promises.{Stands, written, Counts, Generates}
 use Rattle.generate.proofs.Generating.{Made, made, turned}
-use Rattle.build.specs.declared.BuildResult.{BuildResult}
-use Rattle.build.specs.declared.BuildResult.TheVariants.{Count, Refused}
 use Rattle.build.specs.Build.{rejected, placed, into, program, build, asked, question, load}
 use Rattle.build.specs.Promises.{answer_of}
 
 -- ---- the file
 
 -- one that passed the checks
-pub stands : (s : List ℕ) (L : LinkType) → AreBytes s → checked (parse s) ≡ K.Link L → Stands s
+pub stands : (s : List ℕ) (L : LinkType) → AreBytes s → checked (parse s) ≡ Ok L → Stands s
 stands s L z e =
     let k = check_link s L e in
     let f : Filter = record { link = L; tree = tree_of s 0 } in
     record { here = k.0; proper = (parse_proper s z f k.2).0; size = parse_records s f k.2 }
 
-pub program_of_lem : (s : List ℕ) (L : LinkType) → checked (parse s) ≡ K.Link L → program s ≡ compile L (tree_of s 0)
+pub program_of_lem : (s : List ℕ) (L : LinkType) → checked (parse s) ≡ Ok L → program s ≡ compile L (tree_of s 0)
 unfolding program
 program_of_lem s L e = rw (check_link s L e).2
 
-pub program_refused : (s : List ℕ) (q : Refusal) → checked (parse s) ≡ K.Refused q → program s ≡ refused q
+pub program_refused : (s : List ℕ) (q : Refusal) → checked (parse s) ≡ Err q → program s ≡ Err q
 unfolding program
 program_refused s q e = rw (check_refused s q e)
 
@@ -51,7 +47,7 @@ program_refused s q e = rw (check_refused s q e)
 
 -- of a tree that is turned down, of one that still has the count, and of one that has another
 module _ (s : List ℕ) (count lent : ℕ) where
-  pub load_refused : {q : Refusal} → program s ≡ refused q → load s count lent ≡ rejected lent q
+  pub load_refused : {q : Refusal} → program s ≡ Err q → load s count lent ≡ rejected lent q
   unfolding load
   load_refused e = rw e
 
@@ -72,26 +68,26 @@ drop_zeros (suc n) (suc m) h = let e : suc n - suc m ≡ n - m = omega arith in 
 
 -- a program that is written over zeros
 over : (lent : ℕ) (p : List Insn)
-    → (answer_of lent (length p) ≡ (into lent (done p)).answer) × (written (done p) (replicate lent 0) ≡ (into lent (done p)).buffer)
+    → (answer_of lent (length p) ≡ (into lent (Ok p)).answer) × (written (Ok p) (replicate lent 0) ≡ (into lent (Ok p)).buffer)
 over lent p = rw length-replicate (by (ltb lent (8 * length p)) refl)
   where
     by : (t : Bool) → ltb lent (8 * length p) ≡ t
-        → (cond t (Refused ShortBuffer) (Count (length p)) ≡ (cond t (rejected lent ShortBuffer) (placed lent p)).answer)
+        → (cond t (Err ShortBuffer) (Ok (length p)) ≡ (cond t (rejected lent ShortBuffer) (placed lent p)).answer)
         × (cond t (replicate lent 0) (program_bytes p ++ drop (8 * length p) (replicate lent 0)) ≡ (cond t (rejected lent ShortBuffer) (placed lent p)).buffer)
     by true e = (refl, refl)
     by false e = (refl, ap (λ l. program_bytes p ++ l) (drop_zeros lent (8 * length p) (ltb-false lent (8 * length p) e)))
 
 -- ---- the build and the load, after what was generated over zeros
 
-module _ (s : List ℕ) (lent : ℕ) {b b' : List ℕ} {r : Compiled} (z : b ≡ replicate lent 0) (g : Generates (program s) b b' r) where
-  over_turned : {q : Refusal} → r ≡ C.Refused q → b' ≡ replicate lent 0
+module _ (s : List ℕ) (lent : ℕ) {b b' : List ℕ} {r : Out ℕ} (z : b ≡ replicate lent 0) (g : Generates (program s) b b' r) where
+  over_turned : {q : Refusal} → r ≡ Err q → b' ≡ replicate lent 0
   over_turned e = g.part ∙ rw (turned g.counts e, z)
 
-  pub build_turned : {q : Refusal} → r ≡ C.Refused q → (Refused q ≡ (build s lent).answer) × (b' ≡ (build s lent).buffer)
+  pub build_turned : {q : Refusal} → r ≡ Err q → (Err q ≡ (build s lent).answer) × (b' ≡ (build s lent).buffer)
   unfolding build
   build_turned e = rw (turned g.counts e) (refl, over_turned e)
 
-  pub build_made : {n : ℕ} → r ≡ C.Count n → {a : BuildResult} {long : ℕ} → long ≡ lent → a ≡ answer_of long n
+  pub build_made : {n : ℕ} → r ≡ Ok n → {a : Out ℕ} {long : ℕ} → long ≡ lent → a ≡ answer_of long n
       → (a ≡ (build s lent).answer) × (b' ≡ (build s lent).buffer)
   unfolding build
   build_made e k w =
@@ -102,24 +98,24 @@ module _ (s : List ℕ) (lent : ℕ) {b b' : List ℕ} {r : Compiled} (z : b ≡
       )
 
   module _ (count : ℕ) where
-    pub load_turned : {q : Refusal} → r ≡ C.Refused q → (Refused q ≡ (load s count lent).answer) × (b' ≡ (load s count lent).buffer)
+    pub load_turned : {q : Refusal} → r ≡ Err q → (Err q ≡ (load s count lent).answer) × (b' ≡ (load s count lent).buffer)
     load_turned e = rw (load_refused s count lent (turned g.counts e)) (refl, over_turned e)
 
-    pub load_made : {n : ℕ} → r ≡ C.Count n → n ≡ count → {a : BuildResult} {long : ℕ} → long ≡ lent → a ≡ answer_of long n
+    pub load_made : {n : ℕ} → r ≡ Ok n → n ≡ count → {a : Out ℕ} {long : ℕ} → long ≡ lent → a ≡ answer_of long n
         → (a ≡ (load s count lent).answer) × (b' ≡ (load s count lent).buffer)
     load_made e h k w = rw (load_same s count lent (made g.counts e) h) (build_made e k w)
 
-    pub load_moved : {n : ℕ} → r ≡ C.Count n → ¬ (n ≡ count) → {b'' : List ℕ} → b'' ≡ replicate lent 0
-        → (Refused CountMoved ≡ (load s count lent).answer) × (b'' ≡ (load s count lent).buffer)
+    pub load_moved : {n : ℕ} → r ≡ Ok n → ¬ (n ≡ count) → {b'' : List ℕ} → b'' ≡ replicate lent 0
+        → (Err CountMoved ≡ (load s count lent).answer) × (b'' ≡ (load s count lent).buffer)
     load_moved e h y = rw (load_other s count lent (made g.counts e) h) (refl, y)
 
 -- ---- the question
 
-module _ (s : List ℕ) {r : Compiled} (g : Counts (program s) r) where
-  pub question_turned : {q : Refusal} → r ≡ C.Refused q → Refused q ≡ question s
+module _ (s : List ℕ) {r : Out ℕ} (g : Counts (program s) r) where
+  pub question_turned : {q : Refusal} → r ≡ Err q → Err q ≡ question s
   unfolding question
   question_turned e = ap asked (sym (turned g e))
 
-  pub question_made : {n : ℕ} → r ≡ C.Count n → Count n ≡ question s
+  pub question_made : {n : ℕ} → r ≡ Ok n → Ok n ≡ question s
   unfolding question
-  question_made e = let m = made g e in ap (λ k. Count k) m.size ∙ ap asked (sym m.eq)
+  question_made e = let m = made g e in ap (λ k. Ok k) m.size ∙ ap asked (sym m.eq)

@@ -1,4 +1,5 @@
 -- Demands 1 and 3 hold of every tree file.
+use Rattle.std.specs.Prelude.{Ok, Err}
 use Prim.Native.Nat.{ℕ, ◌+◌, ◌*◌, ◌-◌, ◌≤◌, ◌<◌}
 use mathlib.Core.Path.{◌≡◌, refl, sym, ap, ◌∙◌, subst}
 use mathlib.Core.List.{List, ◌∷◌, ◌++◌}
@@ -11,7 +12,7 @@ use lib.Dec.{T}
 use borrow.Author.Tests.{ltb-false, ltb-true, lt-ltb, le-ltb}
 use Rattle.error.specs.declared.Refusal.{Refusal}
 use Rattle.error.specs.declared.Refusal.TheVariants.{ShortBuffer}
-use Rattle.error.specs.Answer.{Out, refused, done, number_of, Numbered}
+use Rattle.error.specs.Answer.{Out, number_of, Numbered}
 use Rattle.error.proofs.Among.{within, numbered_more}
 use Rattle.error.proofs.All.{All, all_bind, all_of, Turned, turned_bind, turned_map}
 use Rattle.bpf.specs.declared.Insn.{Insn}
@@ -20,7 +21,6 @@ use Rattle.bpf.specs.Program.{insn, program_bytes, insn_at, targets, Each}
 use Rattle.bpf.proofs.Programs.{length_program, program_at}
 use Rattle.vm.specs.declared.Verdict.{Verdict}
 use Rattle.vm.specs.declared.Verdict.TheVariants.{Accepted, Dropped, Short}
-use Rattle.vm.specs.declared.RunResult.TheVariants.{Ran}
 use Rattle.vm.specs.Machine.{inner, run}
 use Rattle.vm.proofs.Steps.{inner_steps}
 use Rattle.vm.proofs.Bytes.{run_program}
@@ -28,8 +28,6 @@ use Rattle.ast.specs.declared.LinkType.{LinkType}
 use Rattle.ast.specs.File.{Filter, header, parse}
 use Rattle.ast.proofs.Refusals.{early, parse_turned}
 use Rattle.ast.proofs.Bounds.{parse_proper, parse_header}
-use Rattle.direct.specs.declared.DirectResult.{DirectResult}
-use Rattle.direct.specs.declared.DirectResult.TheVariants.{Is}
 use Rattle.direct.specs.Reading.{network_start, reads}
 use Rattle.direct.specs.Direct.{direct}
 use Rattle.codegen.specs.Compile.{compile}
@@ -37,8 +35,6 @@ use Rattle.codegen.proofs.Conditions.{start}
 use Rattle.codegen.proofs.Refusals.{late, compile_turned}
 use Rattle.codegen.proofs.Sound.{Sound, compile_sound}
 use Rattle.codegen.proofs.Tells.{Tells, compile_tells}
-use Rattle.build.specs.declared.BuildResult.{BuildResult}
-use Rattle.build.specs.declared.BuildResult.TheVariants.{Count, Refused}
 use Rattle.build.specs.Build.{rejected, placed, too_short, into, program, build}
 use Rattle.build.specs.Demands as D
 use Rattle.build.specs.Demands.{build_numbers, Calls, Kept, Frame, Begins, Demand1, Demand3, Demands}
@@ -59,14 +55,14 @@ program_of T = D.program_of (defined T)
 -- what holds of a file's program p
 record Met (T : List ℕ) (p : List Insn) : Type 0 where
   filter : Filter
-  parsed : parse T ≡ done filter
+  parsed : parse T ≡ Ok filter
   sound : Sound filter.link p
   tells : (f : List ℕ) → AreBytes f → Tells (reads filter.link f filter.tree) (inner p f).verdict
 
 program_met : (T : List ℕ) → AreBytes T → All (Met T) (program T)
 unfolding program
 program_met T z =
-    all_bind (λ t. parse T ≡ done t) (Met T) (parse T) _ (all_of _ (parse T) (λ t e. e))
+    all_bind (λ t. parse T ≡ Ok t) (Met T) (parse T) _ (all_of _ (parse T) (λ t e. e))
     (λ t e. all_of (Met T) (compile t.link t.tree)
     (λ p c.
     record {
@@ -81,19 +77,19 @@ program_met T z =
 -- a build that answered a count: its program, which is then in the buffer
 pub record Left (o : Out (List Insn)) (lent count : ℕ) : Type 0 where
   pub insns : List Insn
-  pub is : o ≡ done insns
+  pub is : o ≡ Ok insns
   pub size : length insns ≡ count
   pub fits : 8 * count ≤ lent
   pub bytes : take (8 * count) (into lent o).buffer ≡ program_bytes insns
 
-pub never : {A : Type 0} {r : Refusal} {c : ℕ} → ◌≡◌ {A = BuildResult} (Refused r) (Count c) → A
+pub never : {A : Type 0} {r : Refusal} {c : ℕ} → ◌≡◌ {A = (Out ℕ)} (Err r) (Ok c) → A
 never e = let z : ◌≡◌ {A = ℕ} 0 1 = cc in absurd (omega arith)
 
-pub left : (o : Out (List Insn)) (lent count : ℕ) → (into lent o).answer ≡ Count count → Left o lent count
-left (refused r) lent count e = never e
-left (done p) lent count e = go (too_short lent p) refl e
+pub left : (o : Out (List Insn)) (lent count : ℕ) → (into lent o).answer ≡ Ok count → Left o lent count
+left (Err r) lent count e = never e
+left (Ok p) lent count e = go (too_short lent p) refl e
   where
-    go : (b : Bool) → too_short lent p ≡ b → (cond b (rejected lent ShortBuffer) (placed lent p)).answer ≡ Count count → Left (done p) lent count
+    go : (b : Bool) → too_short lent p ≡ b → (cond b (rejected lent ShortBuffer) (placed lent p)).answer ≡ Ok count → Left (Ok p) lent count
     go true t e = never e
     go false t e =
         let size : length p ≡ count = cc in
@@ -106,29 +102,29 @@ left (done p) lent count e = go (too_short lent p) refl e
         }
 
 -- more lent, or less
-pub more : (p : List Insn) (lent : ℕ) → 8 * length p ≤ lent → (into lent (done p)).answer ≡ Count (length p)
+pub more : (p : List Insn) (lent : ℕ) → 8 * length p ≤ lent → (into lent (Ok p)).answer ≡ Ok (length p)
 more p lent h = rw (le-ltb lent (8 * length p) h)
 
-less : (p : List Insn) (lent : ℕ) → lent < 8 * length p → (into lent (done p)).answer ≡ Refused ShortBuffer
+less : (p : List Insn) (lent : ℕ) → lent < 8 * length p → (into lent (Ok p)).answer ≡ Err ShortBuffer
 less p lent h = rw (lt-ltb lent (8 * length p) h)
 
 -- a build that was refused leaves zeros, and only 9 depends on what is lent
-zeroed : (o : Out (List Insn)) (lent : ℕ) (r : Refusal) → (into lent o).answer ≡ Refused r → (into lent o).buffer ≡ replicate lent 0
-zeroed (refused s) lent r e = refl
-zeroed (done p) lent r e = go (too_short lent p) e
+zeroed : (o : Out (List Insn)) (lent : ℕ) (r : Refusal) → (into lent o).answer ≡ Err r → (into lent o).buffer ≡ replicate lent 0
+zeroed (Err s) lent r e = refl
+zeroed (Ok p) lent r e = go (too_short lent p) e
   where
-    go : (b : Bool) → (cond b (rejected lent ShortBuffer) (placed lent p)).answer ≡ Refused r → (cond b (rejected lent ShortBuffer) (placed lent p)).buffer ≡ replicate lent 0
+    go : (b : Bool) → (cond b (rejected lent ShortBuffer) (placed lent p)).answer ≡ Err r → (cond b (rejected lent ShortBuffer) (placed lent p)).buffer ≡ replicate lent 0
     go true e = refl
     go false e = never (sym e)
 
-pub refusal : {r s : Refusal} → ◌≡◌ {A = BuildResult} (Refused r) (Refused s) → r ≡ s
+pub refusal : {r s : Refusal} → ◌≡◌ {A = (Out ℕ)} (Err r) (Err s) → r ≡ s
 refusal e = cc
 
-steady : (o : Out (List Insn)) (lent : ℕ) (r : Refusal) → (into lent o).answer ≡ Refused r → ¬ (number_of r ≡ 9) → (other : ℕ) → (into other o).answer ≡ Refused r
-steady (refused s) lent r e h other = e
-steady (done p) lent r e h other = go (too_short lent p) e
+steady : (o : Out (List Insn)) (lent : ℕ) (r : Refusal) → (into lent o).answer ≡ Err r → ¬ (number_of r ≡ 9) → (other : ℕ) → (into other o).answer ≡ Err r
+steady (Err s) lent r e h other = e
+steady (Ok p) lent r e h other = go (too_short lent p) e
   where
-    go : (b : Bool) → (cond b (rejected lent ShortBuffer) (placed lent p)).answer ≡ Refused r → (into other (done p)).answer ≡ Refused r
+    go : (b : Bool) → (cond b (rejected lent ShortBuffer) (placed lent p)).answer ≡ Err r → (into other (Ok p)).answer ≡ Err r
     go true e = absurd (h (sym (ap number_of (refusal e))))
     go false e = never (sym e)
 
@@ -147,12 +143,12 @@ program_turned T =
     turned_bind Own (parse T) _ (turned_map _ Own (parse T) (numbered_more early own tt) (parse_turned T))
     (λ t. turned_map _ Own (compile t.link t.tree) (numbered_more late own tt) (compile_turned t.link t.tree))
 
-numbered : (o : Out (List Insn)) (lent : ℕ) (r : Refusal) → Turned Own o → (into lent o).answer ≡ Refused r → Numbered build_numbers r
+numbered : (o : Out (List Insn)) (lent : ℕ) (r : Refusal) → Turned Own o → (into lent o).answer ≡ Err r → Numbered build_numbers r
 unfolding Own own
-numbered (refused s) lent r h e = rw (← refusal e) (numbered_more own build_numbers tt s h)
-numbered (done p) lent r h e = go (too_short lent p) e
+numbered (Err s) lent r h e = rw (← refusal e) (numbered_more own build_numbers tt s h)
+numbered (Ok p) lent r h e = go (too_short lent p) e
   where
-    go : (b : Bool) → (cond b (rejected lent ShortBuffer) (placed lent p)).answer ≡ Refused r → Numbered build_numbers r
+    go : (b : Bool) → (cond b (rejected lent ShortBuffer) (placed lent p)).answer ≡ Err r → Numbered build_numbers r
     go true e = rw (← refusal e) tt
     go false e = never (sym e)
 
@@ -162,18 +158,18 @@ unfolding own
 narrow = tt
 
 -- 9 is not one of them
-last_of : (o : Out (List Insn)) (lent : ℕ) → Turned Own o → (into lent o).answer ≡ Refused ShortBuffer
-    → (count : ℕ) × (lent < 8 * count) × ((into (8 * count) o).answer ≡ Count count)
+last_of : (o : Out (List Insn)) (lent : ℕ) → Turned Own o → (into lent o).answer ≡ Err ShortBuffer
+    → (count : ℕ) × (lent < 8 * count) × ((into (8 * count) o).answer ≡ Ok count)
 unfolding Own own
-last_of (refused s) lent h e = absurd (subst (Numbered own) (refusal e) h)
-last_of (done p) lent h e = go (too_short lent p) refl e
+last_of (Err s) lent h e = absurd (subst (Numbered own) (refusal e) h)
+last_of (Ok p) lent h e = go (too_short lent p) refl e
   where
-    go : (b : Bool) → too_short lent p ≡ b → (cond b (rejected lent ShortBuffer) (placed lent p)).answer ≡ Refused ShortBuffer
-        → (count : ℕ) × (lent < 8 * count) × ((into (8 * count) (done p)).answer ≡ Count count)
+    go : (b : Bool) → too_short lent p ≡ b → (cond b (rejected lent ShortBuffer) (placed lent p)).answer ≡ Err ShortBuffer
+        → (count : ℕ) × (lent < 8 * count) × ((into (8 * count) (Ok p)).answer ≡ Ok count)
     go true t e = (length p, ltb-true lent (8 * length p) t, more p (8 * length p) (omega arith))
     go false t e = never (sym e)
 
-same_program : {o : Out (List Insn)} {p q : List Insn} → o ≡ done p → o ≡ done q → p ≡ q
+same_program : {o : Out (List Insn)} {p q : List Insn} → o ≡ Ok p → o ≡ Ok q → p ≡ q
 same_program e h = cc
 
 -- ---- verdicts
@@ -183,11 +179,11 @@ told : (b : Bool) (v : Verdict) → Tells b v → (v ≡ Short → ⊥) → v �
 told b v (inl e) h = absurd (h e)
 told b v (inr e) h = e
 
-accepts : (b : Bool) (v : Verdict) → v ≡ cond b Accepted Dropped → (v ≡ Accepted) ↔ (◌≡◌ {A = DirectResult} (Is b) (Is true))
+accepts : (b : Bool) (v : Verdict) → v ≡ cond b Accepted Dropped → (v ≡ Accepted) ↔ (◌≡◌ {A = (Out Bool)} (Ok b) (Ok true))
 accepts true v e = (λ p. refl, λ p. e)
 accepts false v e = (λ p. let q : ◌≡◌ {A = ℕ} 0 1 = cc in absurd (omega arith), λ p. let q : ◌≡◌ {A = ℕ} 0 1 = cc in absurd (omega arith))
 
-drops : (b : Bool) (v : Verdict) → v ≡ cond b Accepted Dropped → (v ≡ Dropped) ↔ (◌≡◌ {A = DirectResult} (Is b) (Is false))
+drops : (b : Bool) (v : Verdict) → v ≡ cond b Accepted Dropped → (v ≡ Dropped) ↔ (◌≡◌ {A = (Out Bool)} (Ok b) (Ok false))
 drops true v e = (λ p. let q : ◌≡◌ {A = ℕ} 0 1 = cc in absurd (omega arith), λ p. let q : ◌≡◌ {A = ℕ} 0 1 = cc in absurd (omega arith))
 drops false v e = (λ p. refl, λ p. e)
 
@@ -205,7 +201,7 @@ given : {A B C D : Type 0} → (A → C) → (B → D) → A ⊎ B → C ⊎ D
 given f g (inl a) = inl (f a)
 given f g (inr b) = inr (g b)
 
-same_link : {o : Out LinkType} {l m : LinkType} → o ≡ done l → o ≡ done m → l ≡ m
+same_link : {o : Out LinkType} {l m : LinkType} → o ≡ Ok l → o ≡ Ok m → l ≡ m
 same_link e h = cc
 
 -- ---- the demands
@@ -214,11 +210,11 @@ module _ (T : List ℕ) (z : AreBytes T) where
   -- an answered build: its program p, and what holds of it
   record Program (lent count : ℕ) : Type 0 where
     p : List Insn
-    is : program T ≡ done p
+    is : program T ≡ Ok p
     met : Met T p
     size : length p ≡ count
     bytes : program_of T lent count ≡ program_bytes p
-    runs : (F : List ℕ) → length F ≤ 65535 → run (program_of T lent count) F ≡ Ran (inner p F)
+    runs : (F : List ℕ) → length F ≤ 65535 → run (program_of T lent count) F ≡ Ok (inner p F)
 
   answered : (lent count : ℕ) → Answers T lent count → Program lent count
   unfolding build
@@ -235,7 +231,7 @@ module _ (T : List ℕ) (z : AreBytes T) where
       }
 
   -- the build of a file that has the program p
-  built : (p : List Insn) → program T ≡ done p → (lent : ℕ) → build T lent ≡ into lent (done p)
+  built : (p : List Insn) → program T ≡ Ok p → (lent : ℕ) → build T lent ≡ into lent (Ok p)
   unfolding build
   built p e lent = ap (into lent) e
 
@@ -261,15 +257,15 @@ module _ (T : List ℕ) (z : AreBytes T) where
 
       enough_at : {lent count : ℕ} (q : Program lent count) (other : ℕ) → 8 * count ≤ other → Answers T other count × (program_of T other count ≡ program_of T lent count)
       enough_at {lent} {count} q other h =
-          let b : Answers T other count = rw (built q.p q.is other) (more q.p other (omega (arith, q.size)) ∙ ap Count q.size) in
+          let b : Answers T other count = rw (built q.p q.is other) (more q.p other (omega (arith, q.size)) ∙ ap Ok q.size) in
           let o = answered other count b in
           (b, o.bytes ∙ ap program_bytes (same_program o.is q.is) ∙ sym q.bytes)
 
-      short_at : {lent count : ℕ} (q : Program lent count) (other : ℕ) → other < 8 * count → (build T other).answer ≡ Refused ShortBuffer
+      short_at : {lent count : ℕ} (q : Program lent count) (other : ℕ) → other < 8 * count → (build T other).answer ≡ Err ShortBuffer
       short_at q other h = rw (built q.p q.is other) (less q.p other (omega (arith, q.size)))
 
   -- the direct reading of the file, on a frame within the limit
-  reading : (t : Filter) → parse T ≡ done t → (F : List ℕ) → length F ≤ 65535 → direct T F ≡ Is (reads t.link F t.tree)
+  reading : (t : Filter) → parse T ≡ Ok t → (F : List ℕ) → length F ≤ 65535 → direct T F ≡ Ok (reads t.link F t.tree)
   unfolding direct
   reading t e F h = rw (e, le-ltb 65535 (length F) h)
 
@@ -305,13 +301,13 @@ module _ (T : List ℕ) (z : AreBytes T) where
           either = given (gets F f.1 Accepted).1 (gets F f.1 Dropped).1 (one_of r (verdict F) e);
         }
 
-    linked : header T ≡ done q.met.filter.link
+    linked : header T ≡ Ok q.met.filter.link
     linked = parse_header T q.met.filter q.met.parsed
 
     all_of_it : (F : List ℕ) → Begins F F
     all_of_it F = take-length F
 
-    long : (F : List ℕ) (link : LinkType) → header T ≡ done link → network_start link + 64 ≤ length F → verdict F ≡ Short → ⊥
+    long : (F : List ℕ) (link : LinkType) → header T ≡ Ok link → network_start link + 64 ≤ length F → verdict F ≡ Short → ⊥
     long F link e h =
         let t = q.met.filter in
         let same : link ≡ t.link = same_link e linked in

@@ -1,4 +1,6 @@
 -- T-05's question and load, computed from a tree file to every byte of the buffer.
+use Rattle.std.specs.Prelude.{Ok, Err}
+use Rattle.error.specs.Answer.{Out}
 use Prim.Native.Nat.{ℕ}
 use mathlib.Core.Path.{◌≡◌, refl}
 use mathlib.Core.List.{List, [], ◌∷◌}
@@ -11,8 +13,6 @@ use Rattle.ast.specs.File as F
 use Rattle.codegen.specs.Block.{settle, far, assemble}
 use Rattle.codegen.specs.Emit as E
 use Rattle.codegen.specs.Compile.{finished, compile}
-use Rattle.build.specs.declared.BuildResult.{BuildResult}
-use Rattle.build.specs.declared.BuildResult.TheVariants.{Count, Refused}
 use Rattle.build.specs.Build.{Built, program, question, load, refusal_of, count_of}
 use Rattle.build.proofs.Sheet.{Ip, Ip6, ethernet, raw_ip}
 
@@ -23,7 +23,7 @@ ip = ethernet Ip
 abbrev ip6 : List ℕ
 ip6 = raw_ip Ip6
 
-questions : List BuildResult
+questions : List (Out ℕ)
 questions = question ip ∷ question ip6 ∷ []
 
 -- a load's refusal, its count, and every byte that it leaves
@@ -51,7 +51,7 @@ downs : List (List ℕ)
 downs = told (load ip6 4 32) ∷ told (load ip6 0 0) ∷ []
 
 record Examples : Type 0 where
-  asks : questions ≡ (Count 4 ∷ Refused KindOnRaw ∷ [])
+  asks : questions ≡ (Ok 4 ∷ Err KindOnRaw ∷ [])
   same : loads
       ≡ ((0 ∷ 4 ∷ 40 ∷ 0 ∷ 0 ∷ 0 ∷ 12 ∷ 0 ∷ 0 ∷ 0 ∷ 21 ∷ 0 ∷ 0 ∷ 1 ∷ 0 ∷ 8 ∷ 0 ∷ 0 ∷ 6 ∷ 0 ∷ 0 ∷ 0 ∷ 255 ∷ 255 ∷ 255 ∷ 255 ∷ 6 ∷ 0 ∷ 0 ∷ 0 ∷ 0 ∷ 0 ∷ 0 ∷ 0 ∷ []) ∷ down 9 31 ∷ [])
   other : others ≡ (down moved 32 ∷ down moved 40 ∷ down moved 32 ∷ down moved 32 ∷ down moved 31 ∷ [])

@@ -1,5 +1,8 @@
 -- The commissioning sheet's ★ lines, and the listing's ★, as one table with one theorem: from tree files to the
 -- bytes of the buffer and to runs of them.
+use Rattle.std.specs.Prelude.{Ok}
+use Rattle.error.specs.Answer.{Out}
+use Rattle.vm.specs.declared.Outcome.{Outcome}
 use Prim.Native.Nat.{ℕ, ◌*◌, ◌-◌, ◌/◌, ◌%◌}
 use mathlib.Core.List.{List, [], ◌∷◌, ◌++◌}
 use mathlib.Core.Bool.{Bool, true, false, ◌&&◌}
@@ -10,8 +13,6 @@ use Rattle.bpf.specs.Bytes.{be, bytes_at, segments_at, le, le_at}
 use Rattle.bpf.specs.Program.{insn_bytes, program_bytes, insn_at, insns_at}
 use Rattle.vm.specs.declared.Verdict.{Verdict}
 use Rattle.vm.specs.declared.Verdict.TheVariants.{Accepted, Short}
-use Rattle.vm.specs.declared.RunResult.{RunResult}
-use Rattle.vm.specs.declared.RunResult.TheVariants.{Ran}
 use Rattle.vm.specs.Machine as VM
 use Rattle.vm.specs.Machine.{run, ended}
 use Rattle.ast.specs.Record.{record_at, good, node_by}
@@ -89,7 +90,7 @@ data Fact : Type 0 where
   lists : List (List ℕ) → Fact  -- the lines of the listing
 
 -- a run's answer as numbers: refusal, verdict and steps
-abbrev outcome : RunResult → List ℕ
+abbrev outcome : Out Outcome → List ℕ
 outcome r = VM.refusal_of r ∷ VM.verdict_of r ∷ VM.steps_of r ∷ []
 
 same_numbers : List ℕ → List ℕ → Bool
@@ -117,7 +118,7 @@ holds (count n) b = eqb n (counted b)
 holds (jt v n) b = eqb v (at b n).jt
 holds (jf v n) b = eqb v (at b n).jf
 holds (ja v n) b = eqb v (at b n).k && eqb (at b n).code 0x05
-holds (ran f v n) b = same_numbers (outcome (run (take (8 * counted b) b.buffer) f)) (outcome (Ran (ended v n)))
+holds (ran f v n) b = same_numbers (outcome (run (take (8 * counted b) b.buffer) f)) (outcome (Ok (ended v n)))
 holds (lists ns) b = same_lines ns (listing (insns_at (counted b) 0 b.buffer))
 
 record Row : Type 0 where

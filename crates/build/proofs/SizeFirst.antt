@@ -1,4 +1,5 @@
 -- T-05 holds of every tree file: the question and the load, against the build.
+use Rattle.std.specs.Prelude.{Ok, Err}
 use Prim.Native.Nat.{ℕ, ◌+◌, ◌*◌, ◌≤◌, ◌<◌}
 use mathlib.Core.Path.{◌≡◌, refl, sym, ap, ◌∙◌, subst}
 use mathlib.Core.List.{List}
@@ -10,14 +11,12 @@ use lib.ListN.{length, take}
 use lib.Dec.{eqb, ltb}
 use Rattle.error.specs.declared.Refusal.{Refusal}
 use Rattle.error.specs.declared.Refusal.TheVariants.{ShortBuffer, CountMoved}
-use Rattle.error.specs.Answer.{Out, refused, done, number_of, Numbered}
+use Rattle.error.specs.Answer.{Out, number_of, Numbered}
 use Rattle.error.proofs.Among.{numbered_more}
 use Rattle.error.proofs.All.{Turned}
 use Rattle.bpf.specs.declared.Insn.{Insn}
 use Rattle.bpf.specs.Bytes.{AreBytes}
 use Rattle.generate.proofs.Generating.{Made}
-use Rattle.build.specs.declared.BuildResult.{BuildResult}
-use Rattle.build.specs.declared.BuildResult.TheVariants.{Count, Refused}
 use Rattle.build.specs.Build.{into, program, build, asked, question, load}
 use Rattle.build.specs.Demands.{Answers, Frame, Begins, Demand3, Demands}
 use Rattle.build.specs.SizeFirst.{Calls, Kept, Builds, Turns, question_numbers, SizeFirst, Edited}
@@ -44,72 +43,72 @@ only_these T c k i =
 
 -- ---- by the program
 
-counts_of : (o : Out (List Insn)) (n : ℕ) → (asked o ≡ Count n) ↔ ((lent : ℕ) → 8 * n ≤ lent → (into lent o).answer ≡ Count n)
-counts_of o n = (to o, λ f. let l = left o (8 * n) n (f (8 * n) (omega arith)) in rw l.is (ap (λ k. Count k) l.size))
+counts_of : (o : Out (List Insn)) (n : ℕ) → (asked o ≡ Ok n) ↔ ((lent : ℕ) → 8 * n ≤ lent → (into lent o).answer ≡ Ok n)
+counts_of o n = (to o, λ f. let l = left o (8 * n) n (f (8 * n) (omega arith)) in rw l.is (ap (λ k. Ok k) l.size))
   where
-    to : (o : Out (List Insn)) → asked o ≡ Count n → (lent : ℕ) → 8 * n ≤ lent → (into lent o).answer ≡ Count n
-    to (refused r) e lent h = never e
-    to (done p) e lent h = let k : length p ≡ n = cc in more p lent (omega arith) ∙ e
+    to : (o : Out (List Insn)) → asked o ≡ Ok n → (lent : ℕ) → 8 * n ≤ lent → (into lent o).answer ≡ Ok n
+    to (Err r) e lent h = never e
+    to (Ok p) e lent h = let k : length p ≡ n = cc in more p lent (omega arith) ∙ e
 
-refusals_of : (o : Out (List Insn)) (r : Refusal) → (asked o ≡ Refused r) ↔ ((lent : ℕ) → (into lent o).answer ≡ Refused r)
-refusals_of (refused s) r = (λ e lent. e, λ f. f 0)
-refusals_of (done p) r = (λ e. never (sym e), λ f. never (sym (f (8 * length p)) ∙ more p (8 * length p) (omega arith)))
+refusals_of : (o : Out (List Insn)) (r : Refusal) → (asked o ≡ Err r) ↔ ((lent : ℕ) → (into lent o).answer ≡ Err r)
+refusals_of (Err s) r = (λ e lent. e, λ f. f 0)
+refusals_of (Ok p) r = (λ e. never (sym e), λ f. never (sym (f (8 * length p)) ∙ more p (8 * length p) (omega arith)))
 
-made_of : (o : Out (List Insn)) (n : ℕ) → asked o ≡ Count n → Made o n
-made_of (refused r) n e = never e
-made_of (done p) n e = record { insns = p; eq = refl; size = cc }
+made_of : (o : Out (List Insn)) (n : ℕ) → asked o ≡ Ok n → Made o n
+made_of (Err r) n e = never e
+made_of (Ok p) n e = record { insns = p; eq = refl; size = cc }
 
-turned_of : (o : Out (List Insn)) (r : Refusal) → asked o ≡ Refused r → o ≡ refused r
-turned_of (refused s) r e = ap refused (refusal e)
-turned_of (done p) r e = never (sym e)
+turned_of : (o : Out (List Insn)) (r : Refusal) → asked o ≡ Err r → o ≡ Err r
+turned_of (Err s) r e = ap Err (refusal e)
+turned_of (Ok p) r e = never (sym e)
 
 -- ---- of a tree file
 
 -- what a load of a count goes by
 data Way (T : List ℕ) (count : ℕ) : Type 0 where
-  down : (r : Refusal) → question T ≡ Refused r → Way T count
-  moved : (n : ℕ) → question T ≡ Count n → ¬ (count ≡ n) → Way T count
-  same : question T ≡ Count count → Way T count
+  down : (r : Refusal) → question T ≡ Err r → Way T count
+  moved : (n : ℕ) → question T ≡ Ok n → ¬ (count ≡ n) → Way T count
+  same : question T ≡ Ok count → Way T count
 
 way : (T : List ℕ) (count : ℕ) → Way T count
 way T count = by (question T) refl
   where
-    by : (q : BuildResult) → question T ≡ q → Way T count
-    by (Refused r) e = down r e
-    by (Count n) e = test (eqb count n) refl
+    by : (q : Out ℕ) → question T ≡ q → Way T count
+    by (Err r) e = down r e
+    by (Ok n) e = test (eqb count n) refl
       where
         test : (b : Bool) → eqb count n ≡ b → Way T count
-        test true t = same (e ∙ ap (λ k. Count k) (sym (eqb-true count n t)))
+        test true t = same (e ∙ ap (λ k. Ok k) (sym (eqb-true count n t)))
         test false t = moved n e (eqb-false count n t)
 
 module _ (T : List ℕ) where
-  numbers : (r : Refusal) → question T ≡ Refused r → Numbered question_numbers r
+  numbers : (r : Refusal) → question T ≡ Err r → Numbered question_numbers r
   unfolding question Own own
   numbers r e = numbered_more own question_numbers tt r (subst (Turned Own) (turned_of (program T) r e) (program_turned T))
 
-  loads_same : (n lent : ℕ) → question T ≡ Count n → Builds (defined T) n lent
+  loads_same : (n lent : ℕ) → question T ≡ Ok n → Builds (defined T) n lent
   unfolding question
   loads_same n lent e =
       let i = load_same T n lent (made_of (program T) n e) refl in
       record { answer = ap (λ b. b.answer) i; buffer = ap (λ b. b.buffer) i }
 
-  loads_refused : (r : Refusal) (count lent : ℕ) → question T ≡ Refused r → Turns (defined T) count lent r
+  loads_refused : (r : Refusal) (count lent : ℕ) → question T ≡ Err r → Turns (defined T) count lent r
   unfolding question
   loads_refused r count lent e =
       let i = load_refused T count lent (turned_of (program T) r e) in
       record { answer = ap (λ b. b.answer) i; buffer = ap (λ b. b.buffer) i }
 
-  loads_moved : (n count lent : ℕ) → question T ≡ Count n → ¬ (count ≡ n) → Turns (defined T) count lent CountMoved
+  loads_moved : (n count lent : ℕ) → question T ≡ Ok n → ¬ (count ≡ n) → Turns (defined T) count lent CountMoved
   unfolding question
   loads_moved n count lent e h =
       let i = load_other T count lent (made_of (program T) n e) (λ k. h (sym k)) in
       record { answer = ap (λ b. b.answer) i; buffer = ap (λ b. b.buffer) i }
 
-  counts : (n : ℕ) → (question T ≡ Count n) ↔ ((lent : ℕ) → 8 * n ≤ lent → Answers (Base.defined T) lent n)
+  counts : (n : ℕ) → (question T ≡ Ok n) ↔ ((lent : ℕ) → 8 * n ≤ lent → Answers (Base.defined T) lent n)
   unfolding question build
   counts n = counts_of (program T) n
 
-  refusals : (r : Refusal) → (question T ≡ Refused r) ↔ ((lent : ℕ) → (build T lent).answer ≡ Refused r)
+  refusals : (r : Refusal) → (question T ≡ Err r) ↔ ((lent : ℕ) → (build T lent).answer ≡ Err r)
   unfolding question build
   refusals r = refusals_of (program T) r
 
@@ -118,10 +117,10 @@ module _ (T : List ℕ) (z : AreBytes T) where
   base = demands T z (Base.defined T) (Base.kept T)
 
   -- no question has the number 9 or 19
-  none : {A : Type 0} {r s : Refusal} → question T ≡ Refused r → r ≡ s → (Numbered question_numbers s → ⊥) → A
+  none : {A : Type 0} {r s : Refusal} → question T ≡ Err r → r ≡ s → (Numbered question_numbers s → ⊥) → A
   none e h n = absurd (n (subst (Numbered question_numbers) h (numbers T _ e)))
 
-  short : (count lent : ℕ) → Way T count → (load T count lent).answer ≡ Refused ShortBuffer → (question T ≡ Count count) × (lent < 8 * count)
+  short : (count lent : ℕ) → Way T count → (load T count lent).answer ≡ Err ShortBuffer → (question T ≡ Ok count) × (lent < 8 * count)
   short count lent (down r h) e = none h (refusal (sym (loads_refused T r count lent h).answer ∙ e)) (λ k. k)
   short count lent (moved n h m) e = let q = ap number_of (refusal (sym (loads_moved T n count lent h m).answer ∙ e)) in absurd (omega arith)
   short count lent (same h) e = (h, test (ltb lent (8 * count)) refl)
@@ -130,15 +129,15 @@ module _ (T : List ℕ) (z : AreBytes T) where
       test true t = ltb-true lent (8 * count) t
       test false t = never (sym e ∙ (loads_same T count lent h).answer ∙ (counts T count).0 h lent (ltb-false lent (8 * count) t))
 
-  long : (count lent : ℕ) → question T ≡ Count count → lent < 8 * count → (load T count lent).answer ≡ Refused ShortBuffer
+  long : (count lent : ℕ) → question T ≡ Ok count → lent < 8 * count → (load T count lent).answer ≡ Err ShortBuffer
   long count lent h l = (loads_same T count lent h).answer ∙ base.first.short (8 * count) count ((counts T count).0 h (8 * count) (omega arith)) lent l
 
-  only : (count lent : ℕ) → Way T count → (load T count lent).answer ≡ Refused CountMoved → (n : ℕ) × (question T ≡ Count n) × (¬ (count ≡ n))
+  only : (count lent : ℕ) → Way T count → (load T count lent).answer ≡ Err CountMoved → (n : ℕ) × (question T ≡ Ok n) × (¬ (count ≡ n))
   only count lent (down r h) e = none h (refusal (sym (loads_refused T r count lent h).answer ∙ e)) (λ k. k)
   only count lent (moved n h m) e = (n, h, m)
   only count lent (same h) e = absurd (base.first.refuses lent CountMoved (sym (loads_same T count lent h).answer ∙ e))
 
-  counted : (count n lent : ℕ) → Way T count → (load T count lent).answer ≡ Count n → (n ≡ count) × (question T ≡ Count count)
+  counted : (count n lent : ℕ) → Way T count → (load T count lent).answer ≡ Ok n → (n ≡ count) × (question T ≡ Ok count)
   counted count n lent (down r h) e = never (sym (loads_refused T r count lent h).answer ∙ e)
   counted count n lent (moved m h d) e = never (sym (loads_moved T m count lent h d).answer ∙ e)
   counted count n lent (same h) e =
@@ -146,7 +145,7 @@ module _ (T : List ℕ) (z : AreBytes T) where
       let b = (counts T count).0 h (8 * n + 8 * count) (omega arith) in
       (cc, h)
 
-  third : (count lent : ℕ) → (load T count lent).answer ≡ Count count → (F G : List ℕ) → Frame F → Frame G → Begins G F
+  third : (count lent : ℕ) → (load T count lent).answer ≡ Ok count → (F G : List ℕ) → Frame F → Frame G → Begins G F
       → Demand3 T (Base.defined T) (take (8 * count) (load T count lent).buffer) F G
   third count lent e F G f g b =
       let s = loads_same T count lent (counted count count lent (way T count) e).1 in

@@ -1,35 +1,32 @@
 -- Demands 1 and 3, in the customer's order and words, of what calls of `build`, `run` and `direct_reading` answer and leave.
 -- `proofs/Demands.antt` proves them of every tree file from what these functions promise.
+use Rattle.std.specs.Prelude.{Ok, Err}
+use Rattle.error.specs.Answer.{Out}
+use Rattle.std.specs.Prelude.{Bool}
 use Rattle.std.specs.Prelude.{ℕ, ◌+◌, ◌*◌, ◌≤◌, ◌<◌, ◌≡◌, List, [], ◌∷◌, ◌↔◌, ◌⊎◌, true, false, length, replicate, take}
 use Rattle.error.specs.declared.Refusal.{Refusal}
 use Rattle.error.specs.declared.Refusal.TheVariants.{ShortBuffer}
-use Rattle.error.specs.Answer.{done, number_of, Numbered}
+use Rattle.error.specs.Answer.{number_of, Numbered}
 use Rattle.bpf.specs.Bytes.{AreBytes}
 use Rattle.bpf.specs.Program.{insn_at, targets, Each}
 use Rattle.vm.specs.declared.Verdict.{Verdict}
 use Rattle.vm.specs.declared.Verdict.TheVariants.{Accepted, Dropped, Short}
 use Rattle.vm.specs.declared.Outcome.{Outcome}
-use Rattle.vm.specs.declared.RunResult.{RunResult}
-use Rattle.vm.specs.declared.RunResult.TheVariants.{Ran, Refused}
 use Rattle.vm.specs.Machine.{run}
 use Rattle.ast.specs.declared.LinkType.{LinkType}
 use Rattle.ast.specs.File.{header}
-use Rattle.direct.specs.declared.DirectResult.{DirectResult}
-use Rattle.direct.specs.declared.DirectResult.TheVariants.{Is}
 use Rattle.direct.specs.Reading.{network_start}
 use Rattle.direct.specs.Direct.{direct}
-use Rattle.build.specs.declared.BuildResult.{BuildResult}
-use Rattle.build.specs.declared.BuildResult.TheVariants as B
 use Rattle.build.specs.Build.{build}
 
 -- ---- the calls
 
 -- what the three functions answer for one tree file, and what `build` leaves
 pub record Calls : Type 0 where
-  pub answer : ℕ → BuildResult  -- of `build` with a buffer of so many bytes
+  pub answer : ℕ → Out ℕ  -- of `build` with a buffer of so many bytes
   pub buffer : ℕ → List ℕ  -- every byte of that buffer afterwards
-  pub ran : List ℕ → List ℕ → RunResult  -- of `run` with a program and a frame
-  pub read : List ℕ → DirectResult  -- of `direct_reading` with a frame
+  pub ran : List ℕ → List ℕ → Out Outcome  -- of `run` with a program and a frame
+  pub read : List ℕ → Out Bool  -- of `direct_reading` with a frame
 
 -- what the functions promise of them, equation by equation
 pub record Kept (T : List ℕ) (c : Calls) : Type 0 where
@@ -43,10 +40,10 @@ pub record Kept (T : List ℕ) (c : Calls) : Type 0 where
 -- a build answers a count where so many bytes are lent. "An accepted tree is a file for which the build answers a count when enough buffer
 -- is lent"
 abbrev pub Answers : Calls → ℕ → ℕ → Type 0
-Answers c lent count = c.answer lent ≡ B.Count count
+Answers c lent count = c.answer lent ≡ Ok count
 
 abbrev pub Refuses : Calls → ℕ → Refusal → Type 0
-Refuses c lent r = c.answer lent ≡ B.Refused r
+Refuses c lent r = c.answer lent ≡ Err r
 
 -- "its program is the first 8 × count bytes then left there"
 abbrev pub program_of : Calls → ℕ → ℕ → List ℕ
@@ -61,9 +58,9 @@ abbrev pub Begins : List ℕ → List ℕ → Type 0
 Begins G F = take (length F) G ≡ F
 
 -- the run of a program over a frame gets a verdict
-abbrev pub HasVerdict : Verdict → RunResult → Type 0
-HasVerdict v (Ran o) = o.verdict ≡ v
-HasVerdict v (Refused r) = ⊥
+abbrev pub HasVerdict : Verdict → Out Outcome → Type 0
+HasVerdict v (Ok o) = o.verdict ≡ v
+HasVerdict v (Err r) = ⊥
 
 abbrev pub Gets : Calls → List ℕ → List ℕ → Verdict → Type 0
 Gets c P F v = HasVerdict v (c.ran P F)
@@ -86,7 +83,7 @@ pub record Demand1 (c : Calls) : Type 0 where
       → Each (λ target. (i < target) × (target < count)) (targets i (insn_at (8 * i) (program_of c lent count)))
   -- "and a run over a frame of at most 65,535 bytes stops within as many steps as there are instructions."
   pub stops : (lent count : ℕ) → Answers c lent count → (F : List ℕ) → length F ≤ 65535
-      → (o : Outcome) × (c.ran (program_of c lent count) F ≡ Ran o) × (o.steps ≤ count)
+      → (o : Outcome) × (c.ran (program_of c lent count) F ≡ Ok o) × (o.steps ≤ count)
   -- "Every other tree file is turned down with the number that document 01 fixes,": `build` gives it; it is one of these,
   pub refuses : (lent : ℕ) (r : Refusal) → Refuses c lent r → Numbered build_numbers r
   -- 9 exactly where less is lent than a count needs that is answered when it is lent, so that it is last; the others whatever is lent
@@ -102,8 +99,8 @@ pub record Demand1 (c : Calls) : Type 0 where
 
 -- the run over F accepts exactly when the direct reading of T on G is true, and drops exactly when it is false; it is one of the two
 pub record Decided (c : Calls) (P F G : List ℕ) : Type 0 where
-  pub accepted : Gets c P F Accepted ↔ (c.read G ≡ Is true)
-  pub dropped : Gets c P F Dropped ↔ (c.read G ≡ Is false)
+  pub accepted : Gets c P F Accepted ↔ (c.read G ≡ Ok true)
+  pub dropped : Gets c P F Dropped ↔ (c.read G ≡ Ok false)
   pub either : Gets c P F Accepted ⊎ Gets c P F Dropped
 
 pub record Demand3 (T : List ℕ) (c : Calls) (P F G : List ℕ) : Type 0 where
@@ -114,9 +111,9 @@ pub record Demand3 (T : List ℕ) (c : Calls) (P F G : List ℕ) : Type 0 where
   -- "Whatever F holds, T's program accepts G if it accepts F."
   pub monotone : Gets c P F Accepted → Gets c P G Accepted
   -- "On every frame within the limit that reaches 64 bytes past the network header's start no read leaves it,": T has a link, whose start it is
-  pub reaches : (link : LinkType) × (header T ≡ done link) × (network_start link + 64 ≤ length F → ¬ ReadsPast c P F)
+  pub reaches : (link : LinkType) × (header T ≡ Ok link) × (network_start link + 64 ≤ length F → ¬ ReadsPast c P F)
   -- "so the verdict there is always that of the direct reading."
-  pub there : (link : LinkType) → header T ≡ done link → network_start link + 64 ≤ length F → Decided c P F F
+  pub there : (link : LinkType) → header T ≡ Ok link → network_start link + 64 ≤ length F → Decided c P F F
 
 -- ---- both, of the calls for a tree file T
 

@@ -1,33 +1,34 @@
 -- The open exits of a program's block go to the two returns.
-use Prim.Native.Nat.{ℕ, suc, ◌+◌, ◌≤◌, ◌<◌}
-use mathlib.Core.Path.{◌≡◌, refl, sym, ap, ap₂, ◌∙◌, subst}
-use mathlib.Core.List.{List, [], ◌∷◌, ◌++◌, map, append_assoc}
-use mathlib.Core.Bool.{Bool, true, false, not, ◌||◌}
-use native.Mathlib.Omega.{arith}
-use native.Mathlib.Numerals.{add-one}
-use lib.ListN.{length, take, drop, set, length-append, length-set}
+use Rattle.std.proofs.Common.{◌≡◌, refl, sym, ap, ◌∙◌, List, [], ◌∷◌, ◌++◌, map, length, take, set, Bool, true, false, cond, ◌||◌, ℕ, suc, ◌+◌, ◌<◌, ◌≤◌, subst, append_assoc, add-one, arith, Ok, Err}
 use lib.Dec.{ltb}
 use borrow.Author.Tests.{ltb-true}
-use Rattle.bpf.specs.declared.Insn.{Insn}
-use Rattle.bpf.specs.Bytes.{le}
-use lib.Seq.{slice, take-suc-set, take_at}
+use lib.ListN.{drop, length-append, length-set}
+use lib.Seq.{take-suc-set}
+use Rattle.error.specs.declared.Refusal.{Refusal}
 use Rattle.error.specs.declared.Refusal.TheVariants.{FarJump}
-use Rattle.error.specs.Answer.{done, ◌>>=◌}
-use Rattle.bpf.specs.Program.{insn_bytes, program_bytes}
-use Rattle.codegen.specs.Block.{Side, success, failure, Exit, skip, leave, Line, op, test, ja, Block, swap, swap_line, settle, distance, far, far_line, resolved, assemble}
-use Rattle.codegen.specs.Compile.{finished, returns}
-use Rattle.codegen.proofs.Semantics.{length_settle}
-use Rattle.emit.specs.declared.Patches.{Patches}
-use Rattle.emit.specs.Lines.{packs, resolve, places}
-use Rattle.emit.specs.Grown.{Grew, Resolves, Ended}
-use Rattle.emit.proofs.Grow.{packs_length}
-use Rattle.emit.proofs.Settling.{law, whole, far_law, resolves_near, resolves_long, resolves_lines, settled_success, failure_segment}
-use Rattle.emit.proofs.Outcome.{ended_far, ended_grew}
-use Rattle.output.specs.Words.{insn_of, bytes_of}
-use Rattle.output.proofs.Parts.{bytes_append}
-use Rattle.compile.specs.declared.Compiled.TheVariants.{Count, Refused}
-use Rattle.compile.specs.Walks.{start, Compiles}
-use Rattle.compile.proofs.Words.{block_bytes}
+use Rattle.error.specs.Answer.{Out, ◌>>=◌}
+use Rattle.bpf.specs.declared.Insn.{Insn}
+use Rattle.bpf.specs.Program.{insn}
+use Rattle.codegen.specs.declared.Side.{Side}
+use Rattle.codegen.specs.declared.Side.TheVariants.{Success, Failure}
+use Rattle.codegen.specs.declared.Exit.{Exit}
+use Rattle.codegen.specs.declared.Exit.TheVariants.{Skip, Leave}
+use Rattle.codegen.specs.declared.Line.{Line}
+use Rattle.codegen.specs.declared.Line.TheVariants.{Plain, Branch, Jump}
+use Rattle.codegen.specs.Block.{Block, swap, swap_line, settle, distance, far, far_line, resolved, assemble}
+use Rattle.codegen.specs.Emit.{Code, emit}
+use Rattle.codegen.specs.Compile.{entry_facts, finished, returns, compile}
+use Rattle.emit.specs.declared.Emitter.{Emitter}
+use Rattle.emit.specs.Lines.{Below, waiting, assembled}
+use Rattle.emit.specs.Grown.{Answers, Empty, Room, Put, Grew, Replies, Open, stack_of, Settled, coded}
+use Rattle.emit.proofs.Settling.{Held, before_end, told, settled, below_more}
+use Rattle.emit.proofs.Joins.{Near, settled_near}
+use Rattle.emit.proofs.Grow.{Sized}
+use Rattle.codegen.proofs.Shape.{weight}
+use Rattle.reader.specs.Reader.{tree_of}
+use Rattle.guards.specs.declared.Note.{Note}
+use Rattle.ast.specs.Tree.{Expr}
+use Rattle.compile.specs.Walks.{Begun, Ready, Fresh, Ended, Holds, Compiles}
 
 -- ---- what is far stays far
 
@@ -35,14 +36,14 @@ or_right : (a b : Bool) → b ≡ true → a || b ≡ true
 or_right true b e = refl
 or_right false b e = e
 
-far_exit : (e : Side) (n : ℕ) (q : Exit) → ltb 255 (distance q) ≡ true → ltb 255 (distance (swap e (skip n) q)) ≡ true
-far_exit e n (skip m) h = h
-far_exit e n (leave p) h = absurd (omega (arith, ltb-true 255 0 h))
+far_exit : (e : Side) (n : ℕ) (q : Exit) → ltb 255 (distance q) ≡ true → ltb 255 (distance (swap e (Skip n) q)) ≡ true
+far_exit e n (Skip m) h = h
+far_exit e n (Leave p) h = absurd (omega (arith, ltb-true 255 0 h))
 
-far_line_lem : (e : Side) (n : ℕ) (l : Line) → far_line l ≡ true → far_line (swap_line e (skip n) l) ≡ true
-far_line_lem e n (op o) h = h
-far_line_lem e n (test t k s q) h = far_exit e n q h
-far_line_lem e n (ja q) h = far_exit e n q h
+far_line_lem : (e : Side) (n : ℕ) (l : Line) → far_line l ≡ true → far_line (swap_line e (Skip n) l) ≡ true
+far_line_lem e n (Plain o) h = h
+far_line_lem e n (Branch t k s q) h = far_exit e n q h
+far_line_lem e n (Jump q) h = far_exit e n q h
 
 or_cases : (a b : Bool) (P : Type 0) → (a ≡ true → P) → (b ≡ true → P) → a || b ≡ true → P
 or_cases true b P f g e = f refl
@@ -52,82 +53,138 @@ far_settle : (e : Side) (d : ℕ) (B : Block) → far B ≡ true → far (settle
 unfolding far settle
 far_settle e d [] h = h
 far_settle e d (l ∷ B) h =
-    or_cases (far_line l) (far B) _ (λ f. rw (far_line_lem e (length B + d) l f)) (λ f. or_right (far_line (swap_line e (skip (length B + d)) l)) (far (settle e d B)) (far_settle e d B f)) h
+    or_cases (far_line l) (far B) _ (λ f. rw (far_line_lem e (length B + d) l f)) (λ f. or_right (far_line (swap_line e (Skip (length B + d)) l)) (far (settle e d B)) (far_settle e d B f)) h
 
 -- ---- the two settlings, of a block that was added from the start
 
-module _ {B : Block} {I₀ Y₀ N₀ I Y N : List ℕ} {p : Patches} (g : Grew B I₀ Y₀ N₀ start I Y N p) (I₁ : List ℕ) (r : Bool)
-    (q : Resolves (resolve (slice 0 p.success Y) p.insns I) I₁ r) where
-  first : Ended (settle success 0 B) I₀ Y₀ N₀ start I₁ Y N (record { insns = p.insns; success = 0; failure = p.failure; x_writes = p.x_writes }) r
-  first = settled_success g (omega arith) I₁ r q
+refused_is : (b : Bool) {q : Refusal} → ◌≡◌ {A = Out (Unit {0})} (cond b (Err FarJump) (Ok tt)) (Err q) → (b ≡ true) × (q ≡ FarJump)
+refused_is true e = (refl, cc)
+refused_is false e = cc
 
-  pub first_far : r ≡ false → far (finished B) ≡ true
+-- the second settling's pending jumps
+pub second_open : {e f : Emitter} {r : Out (Unit {0})} → Ended e → Settled Success 0 0 e f r → r ≡ Ok tt → Open Failure 0 1 f
+second_open {e} {f} h z p =
+    let c = rw p at z.cut in
+    record {
+      most = omega (arith, h.insns, z.count);
+      mark = omega arith;
+      room = omega (arith, c.1, h.failures, ap length z.lost);
+      below = rw (c.1, z.lost) (below_more e.count (f.count + 1) (drop 0 (waiting e.failure)) (omega (arith, z.count)) h.lost);
+    }
+
+module _ {e f : Emitter} {r : Out (Unit {0})} (z : Settled Success 0 0 e f r) (c : Code) (d : Emitter) (s : Fresh d) (g : Grew c d e) where
+  first : Replies (coded e.facts (resolved (settle Success 0 c.block))) d f r
+  first = settled g 0 Success (omega (arith, s.success)) (subst (λ (m : ℕ). Settled Success m 0 e f r) (sym s.success) z)
+
+  pub first_refused : {q : Refusal} {k : Emitter} → r ≡ Err q → Compiles (resolved (finished c.block) >>= λ b. Ok (map assemble b ++ returns)) d k (Err q)
   unfolding finished
-  first_far e = far_settle failure 1 (settle success 0 B) (ended_far first e)
+  first_refused p =
+      let w = refused_is (far (settle Success 0 c.block)) (sym (told g 0 Success (omega (arith, s.success)) (subst (λ (m : ℕ). Settled Success m 0 e f r) (sym s.success) z)) ∙ p) in
+      rw (far_settle Failure 1 (settle Success 0 c.block) w.0, w.1) (record { is = refl })
 
-  module _ (e : r ≡ true) (I₂ : List ℕ) (r₂ : Bool) (q₂ : Resolves (resolve (slice 0 p.failure N) (p.insns + 1) I₁) I₂ r₂) where
-    grown : Grew (settle success 0 B) I₀ Y₀ N₀ start I₁ Y N (record { insns = p.insns; success = 0; failure = p.failure; x_writes = p.x_writes })
-    grown = ended_grew first e
+  module _ (p : r ≡ Ok tt) {h : Emitter} {t : Out (Unit {0})} (y : Settled Failure 0 1 f h t) where
+    once : Near (settle Success 0 c.block) e.facts d f
+    once = settled_near (settle Success 0 c.block) e.facts d f first p
 
-    segment : slice 0 p.failure N ≡ places failure 0 (settle success 0 B)
-    segment = failure_segment grown (omega arith)
-
-    pub second_near : r₂ ≡ not (far (finished B))
+    pub second_refused : {q : Refusal} {k : Emitter} → t ≡ Err q → Compiles (resolved (finished c.block) >>= λ b. Ok (map assemble b ++ returns)) d k (Err q)
     unfolding finished
-    second_near =
-        resolves_near (resolve (places failure 0 (settle success 0 B)) (p.insns + 1) I₁) I₂ r₂ (rw segment at q₂)
-        ∙ ap not (far_law failure (settle success 0 B) 0 (p.insns + 1) 1 I₁ grown.near (omega (arith, grown.insns)))
+    second_refused o =
+        let w = refused_is (far (finished c.block)) (sym (told once.grew 1 Failure (omega (arith, s.failure)) (subst (λ (m : ℕ). Settled Failure m 1 f h t) (sym s.failure) y)) ∙ o) in
+        rw (w.0, w.1) (record { is = refl })
 
-    pub second_lines : far (finished B) ≡ false → p.insns ≤ length I₂ → I₂ ≡ packs (finished B) ++ drop p.insns I₁
+    twice : t ≡ Ok tt → Near (finished c.block) f.facts d h
     unfolding finished
-    second_lines f k =
-        let h : p.insns ≤ length I₁ = omega (arith, resolves_long (slice 0 p.failure N) (p.insns + 1) I₁ I₂ r₂ (second_near ∙ ap not f) q₂) in
-        let w =
-        ap (λ (x : List ℕ). resolve x (p.insns + 1) I₁) segment
-        ∙ ap (resolve (places failure 0 (settle success 0 B)) (p.insns + 1)) (whole grown h)
-        ∙ law failure [] (drop p.insns I₁) (settle success 0 B) 0 (p.insns + 1) 1 grown.near refl (omega (arith, grown.insns)) in
-        resolves_lines (far (finished B)) _ I₂ r₂ f (subst (λ x. Resolves x I₂ r₂) w q₂)
+    twice o = settled_near (finished c.block) f.facts d h (settled once.grew 1 Failure (omega (arith, s.failure)) (subst (λ (m : ℕ). Settled Failure m 1 f h t) (sym s.failure) y)) o
 
-    pub second_length : length (finished B) ≡ p.insns
-    unfolding finished
-    second_length = omega (arith, length_settle failure 1 (settle success 0 B), length_settle success 0 B, g.insns)
+    map_length : (b : Block) → length (map assemble b) ≡ length b
+    map_length [] = refl
+    map_length (l ∷ b) = ap suc (map_length b)
 
--- ---- the two returns
+    take_two : (I : List Insn) (n : ℕ) (v w : Insn) → n + 1 + 1 ≤ length I → take (n + 1 + 1) (set (set I n v) (n + 1) w) ≡ take n I ++ (v ∷ w ∷ [])
+    take_two I n v w k =
+        let J = set I n v in
+        let a : take (n + 1) J ≡ take n I ++ (v ∷ []) = rw (add-one, take-suc-set I n v (omega arith)) in
+        let m : n + 1 < length J = simp length-set (omega arith) in
+        let b : n + 1 + 1 ≡ suc (n + 1) = omega arith in
+        rw (b, take-suc-set J (n + 1) w m) (rw a (append_assoc (take n I) (v ∷ []) (w ∷ [])))
 
-return_bytes : bytes_of (0xffff_ffff_0000_0006 ∷ 6 ∷ []) ≡ program_bytes returns
-unfolding bytes_of program_bytes insn_of insn_bytes le
-return_bytes = refl
+    pub program : t ≡ Ok tt → {i j : Emitter} → Put (insn 0x06 0 0 0xffff_ffff) h i → Put (insn 0x06 0 0 0) i j
+        → Compiles (resolved (finished c.block) >>= λ b. Ok (map assemble b ++ returns)) d j (Ok tt)
+    program o {i} {j} u v =
+        let n = twice o in
+        let b = finished c.block in
+        let m = map_length b in
+        rw n.near (record {
+          is = record {
+            row =
+                let e₁ = length-set h.insns.now h.count (insn 0x06 0 0 0xffff_ffff) in
+                let e₂ = length-set i.insns.now i.count (insn 0x06 0 0 0) in
+                omega (arith, ap length v.insns, e₂, ap length u.insns, e₁, n.grew.row);
+            count = rw (length-append, m) (omega (arith, v.count, u.count, n.grew.insns, s.count));
+            insns = λ k.
+                let e₁ = length-set h.insns.now h.count (insn 0x06 0 0 0xffff_ffff) in
+                let e₂ = length-set (set h.insns.now h.count (insn 0x06 0 0 0xffff_ffff)) (h.count + 1) (insn 0x06 0 0 0) in
+                let z = (rw (u.insns, u.count) at v.insns) in
+                let l : h.count + 1 + 1 ≤ length h.insns.now = omega (arith, k, v.count, u.count, ap length z, e₁, e₂) in
+                rw (v.count, z, u.count) (take_two h.insns.now h.count (insn 0x06 0 0 0xffff_ffff) (insn 0x06 0 0 0) l
+                ∙ ap (λ (x : List Insn). x ++ returns) (n.grew.lines (omega (arith, l)) ∙ ap (λ (m : ℕ). take m d.insns.now ++ assembled b) s.count));
+          };
+        })
 
-program_append : (p q : List Insn) → program_bytes (p ++ q) ≡ program_bytes p ++ program_bytes q
-unfolding program_bytes
-program_append [] q = refl
-program_append (i ∷ p) q = ap (λ x. insn_bytes i ++ x) (program_append p q) ∙ sym (append_assoc (insn_bytes i) (program_bytes p) (program_bytes q))
+-- ---- the walk's start
 
-map_length : (b : Block) → length (map assemble b) ≡ length b
-map_length [] = refl
-map_length (l ∷ b) = ap suc (map_length b)
+pub begun : {s : List ℕ} {M : List Note} {d e : Emitter} → Ready s M d → Empty d.link (entry_facts d.link) d.insns.now d.success.patches.now d.failure.patches.now e → Begun s e
+begun {s} r z = record {
+  fresh = record { count = z.count; success = z.success; failure = z.failure; x_writes = z.x_writes };
+  facts = z.facts ∙ ap entry_facts (sym z.link);
+  insns = r.insns;
+  successes = omega (arith, r.successes, ap length z.won);
+  failures = omega (arith, r.failures, ap length z.lost);
+}
 
-take_two : (A R : List ℕ) (n v w : ℕ) → length A ≡ n → n + 2 ≤ length (A ++ R) → take (n + 2) (set (set (A ++ R) n v) (n + 1) w) ≡ A ++ (v ∷ w ∷ [])
-take_two A R n v w e h =
-    let J = set (A ++ R) n v in
-    let a : take (n + 1) J ≡ A ++ (v ∷ []) = rw (add-one, take-suc-set (A ++ R) n v (omega arith)) (ap (λ (x : List ℕ). x ++ (v ∷ [])) (take_at A R n e)) in
-    let k : n + 1 < length J = simp length-set (omega arith) in
-    let b : n + 2 ≡ suc (n + 1) = omega arith in
-    rw (b, take-suc-set J (n + 1) w k) (rw a (append_assoc A (v ∷ []) (w ∷ [])))
+pub begun_room : {s : List ℕ} {e : Emitter} → Begun s e → Room (weight (tree_of s 0)) e
+begun_room b = record {
+  insns = omega (arith, b.insns, b.fresh.count);
+  writings = omega (arith, b.insns, b.fresh.x_writes);
+  failures = omega (arith, b.failures, b.fresh.failure);
+  successes = omega (arith, b.successes, b.fresh.success);
+}
 
-pub done_program : (b : Block) (I R : List ℕ) (n : ℕ) → far b ≡ false → length b ≡ n → (n ≤ length I → I ≡ packs b ++ R)
-    → Compiles (resolved b >>= λ c. done (map assemble c ++ returns)) (set (set I n 0xffff_ffff_0000_0006) (n + 1) 6) (Count (n + 2))
-done_program b I R n f e q = rw f (record { is = (omega (arith, length-append (map assemble b) returns, map_length b), bytes) })
+-- what was compiled from there
+of_row : (d e f : Emitter) → e.insns.now ≡ d.insns.now → (o : Out (List Insn)) (r : Out (Unit {0})) → Answers o (λ p. Holds p e f) r → Answers o (λ p. Holds p d f) r
+of_row d e f z (Ok p) (Ok u) h = record { row = h.row ∙ ap length z; count = h.count; insns = h.insns }
+of_row d e f z (Ok p) (Err q) h = h
+of_row d e f z (Err q) (Ok u) h = h
+of_row d e f z (Err q) (Err k) h = h
+
+pub compiled : (t : Expr) {d e f : Emitter} {r : Out (Unit {0})} → Empty d.link (entry_facts d.link) d.insns.now d.success.patches.now d.failure.patches.now e
+    → Compiles (compile e.link t) e f r → Compiles (compile d.link t) d f r
+compiled t {d = d} {e = e} {f = f} {r = r} z h =
+    subst (λ L. Compiles (compile L t) d f r) z.link (record { is = of_row d e f z.insns (compile e.link t) r h.is })
+
+-- from the entry facts
+pub compiled_down : (t : Expr) {e f : Emitter} {q : Refusal} → e.facts ≡ entry_facts e.link → emit e.link t e.facts ≡ Err q → Compiles (compile e.link t) e f (Err q)
+unfolding compile
+compiled_down t g h = rw (← g, h) (record { is = refl })
+
+pub compiled_done : (t : Expr) {c : Code} {e f : Emitter} {r : Out (Unit {0})} → e.facts ≡ entry_facts e.link → emit e.link t e.facts ≡ Ok c
+    → Compiles (resolved (finished c.block) >>= λ b. Ok (map assemble b ++ returns)) e f r → Compiles (compile e.link t) e f r
+unfolding compile
+compiled_done t g h k = rw (← g, h) k
+
+-- ---- the walk's end
+
+pub ended : {s : List ℕ} {c : Code} {d e : Emitter} → Begun s d → Grew c d e → Sized (weight (tree_of s 0)) d e → Ended e
+ended {e = e} r g z = record {
+  insns = omega (arith, z.insns, r.fresh.count, r.insns);
+  successes = omega (arith, z.successes, r.fresh.success, r.successes, z.won_room);
+  failures = omega (arith, z.failures, r.fresh.failure, r.failures, z.lost_room);
+  won = from_start Success g (omega (arith, r.fresh.success)) r.fresh.success;
+  lost = from_start Failure g (omega (arith, r.fresh.failure)) r.fresh.failure;
+}
   where
-    bytes : n + 2 ≤ length (set (set I n 0xffff_ffff_0000_0006) (n + 1) 6)
-        → bytes_of (take (n + 2) (set (set I n 0xffff_ffff_0000_0006) (n + 1) 6)) ≡ program_bytes (map assemble b ++ returns)
-    bytes k =
-        let h : n + 2 ≤ length I = omega (arith, length-set (set I n 0xffff_ffff_0000_0006) (n + 1) 6, length-set I n 0xffff_ffff_0000_0006) in
-        let z = q (omega arith) in
-        ap bytes_of (rw z (take_two (packs b) R n 0xffff_ffff_0000_0006 6 (packs_length b ∙ e) (rw z at h)))
-        ∙ bytes_append (packs b) (0xffff_ffff_0000_0006 ∷ 6 ∷ [])
-        ∙ ap₂ ◌++◌ (block_bytes b f) return_bytes
-        ∙ sym (program_append (map assemble b) returns)
-
-pub far_program : (b : Block) (I : List ℕ) → far b ≡ true → Compiles (resolved b >>= λ c. done (map assemble c ++ returns)) I (Refused FarJump)
-far_program b I f = rw f (record { is = refl })
+    from_start : (s : Side) {c : Code} {d e : Emitter} → Grew c d e → Held s d → (stack_of s d).len ≡ 0 → Below e.count (drop 0 (waiting (stack_of s e)))
+    from_start s {e = e} g h q =
+        let b = before_end g s h 0 in
+        let k : e.count + 0 ≡ e.count = omega arith in
+        subst (λ (m : ℕ). Below e.count (drop m (waiting (stack_of s e)))) q (rw k at b)

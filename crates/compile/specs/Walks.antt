@@ -1,47 +1,43 @@
 -- The walk over the records: what it needs, and its parts as the code has them.
-use Rattle.std.specs.Prelude.{ℕ, ◌+◌, ◌*◌, ◌≤◌, ◌<◌, ◌≡◌, List, ◌++◌, map, length, take}
-use Rattle.std.proofs.Math.Seq.{slice}
-use Rattle.error.specs.Answer.{Out, refused, done, ◌>>=◌}
+use Rattle.std.specs.Prelude.{ℕ, ◌+◌, ◌≤◌, ◌<◌, ◌≡◌, List, ◌++◌, map, length, take, drop, Ok}
+use Rattle.error.specs.Answer.{Out, ◌>>=◌}
 use Rattle.bpf.specs.declared.Insn.{Insn}
-use Rattle.bpf.specs.Program.{program_bytes}
 use Rattle.ast.specs.declared.LinkType.{LinkType}
 use Rattle.ast.specs.Tree.{Expr}
 use Rattle.ast.specs.File.{count_of}
 use Rattle.ast.proofs.Proper.{Proper}
 use Rattle.codegen.specs.declared.Facts.{Facts}
 use Rattle.codegen.specs.Facts.{meet}
-use Rattle.codegen.specs.Block.{Block, otherwise, resolved, assemble}
+use Rattle.codegen.specs.Block.{otherwise, resolved, assemble}
 use Rattle.codegen.specs.Emit.{Code, code, restored_after, emit}
-use Rattle.codegen.specs.Compile.{finished, returns}
+use Rattle.codegen.specs.Compile.{entry_facts, finished, returns}
 use Rattle.codegen.proofs.Shape.{weight}
-use Rattle.emit.specs.declared.Patches.{Patches}
-use Rattle.emit.specs.Lines.{Below}
-use Rattle.emit.specs.Grown.{Grew}
+use Rattle.emit.specs.declared.Emitter.{Emitter}
+use Rattle.emit.specs.Lines.{Below, waiting}
+use Rattle.emit.specs.Grown.{Grew, Answers}
 use Rattle.reader.specs.Reader.{Here, tree_of}
-use Rattle.compile.specs.declared.Compiled.{Compiled}
-use Rattle.compile.specs.declared.Compiled.TheVariants.{Count, Refused}
+use Rattle.guards.specs.declared.Note.{Note}
 use Rattle.guards.specs.Notes.{Noted}
-use Rattle.output.specs.Words.{bytes_of}
 
 -- M has the notes of all records of the file s, if these are more than two: fewer have no join, and joins alone read notes
-pub record Joined (s M : List ℕ) : Type 0 where
+pub record Joined (s : List ℕ) (M : List Note) : Type 0 where
   pub noted : 2 < count_of s → Noted s M 0 (count_of s)
-  pub long : 2 < count_of s → 5 * count_of s ≤ length M
+  pub long : 2 < count_of s → count_of s ≤ length M
 
 -- room for them
-pub record Noting (s M : List ℕ) : Type 0 where
+pub record Noting (s : List ℕ) (M : List Note) : Type 0 where
   pub here : Here s 0
-  pub notes : 2 < count_of s → 5 * count_of s ≤ length M
+  pub notes : 2 < count_of s → count_of s ≤ length M
 
 -- a tree stands at record i of the file s, and M has its notes
-pub record Walk (s M : List ℕ) (i : ℕ) : Type 0 where
+pub record Walk (s : List ℕ) (M : List Note) (i : ℕ) : Type 0 where
   pub here : Here s i
   pub proper : Proper (tree_of s i)
   pub joined : Joined s M
 
 -- the right side of an or, after facts of the left
 abbrev pub right_of : LinkType → Expr → Facts → Facts → Out Code
-right_of L t left g = emit L t g >>= λ c. done (code c.block (meet left c.facts))
+right_of L t left g = emit L t g >>= λ c. Ok (code c.block (meet left c.facts))
 
 -- an or after its hoisted guards
 abbrev pub arms : LinkType → Expr → Expr → Facts → Out Code
@@ -49,39 +45,49 @@ arms L l r g = do
   b ← emit L l g
   b' ← resolved (otherwise b.block)
   c ← emit L r (restored_after b.block g)
-  done (code (b' ++ c.block) (meet b.facts c.facts))
+  Ok (code (b' ++ c.block) (meet b.facts c.facts))
 
--- a program, in the lines I where they reach to its end, or a refusal
-abbrev pub Programs : Out (List Insn) → List ℕ → Compiled → Type 0
-Programs (done p) I (Count n) = (n ≡ length p) × (n ≤ length I → bytes_of (take n I) ≡ program_bytes p)
-Programs (done p) I (Refused r) = ⊥
-Programs (refused q) I (Count n) = ⊥
-Programs (refused q) I (Refused r) = r ≡ q
+-- a program, in the lent row where it reaches to its end; the row is as long as it was in d
+pub record Holds (p : List Insn) (d e : Emitter) : Type 0 where
+  pub row : length e.insns.now ≡ length d.insns.now
+  pub count : e.count ≡ length p
+  pub insns : e.count ≤ length e.insns.now → take e.count e.insns.now ≡ p
 
-pub record Compiles (o : Out (List Insn)) (I : List ℕ) (r : Compiled) : Type 0 where
-  pub is : Programs o I r
+-- or a refusal
+pub record Compiles (o : Out (List Insn)) (d e : Emitter) (r : Out (Unit {0})) : Type 0 where
+  pub is : Answers o (λ p. Holds p d e) r
 
--- nothing added yet
-abbrev pub start : Patches
-start = record { insns = 0; success = 0; failure = 0; x_writes = 0 }
+-- nothing is added yet
+pub record Fresh (e : Emitter) : Type 0 where
+  pub count : e.count ≡ 0
+  pub success : e.success.len ≡ 0
+  pub failure : e.failure.len ≡ 0
+  pub x_writes : e.x_writes ≡ 0
 
 -- places for the two returns, and pending jumps before them
-pub record Ended (Y N : List ℕ) (p : Patches) : Type 0 where
-  pub insns : p.insns + 2 ≤ 65536
-  pub successes : p.success ≤ length Y
-  pub failures : p.failure ≤ length N
-  pub won : Below p.insns (slice 0 p.success Y)
-  pub lost : Below p.insns (slice 0 p.failure N)
+pub record Ended (e : Emitter) : Type 0 where
+  pub insns : e.count + 2 ≤ 65536
+  pub successes : e.success.len ≤ length e.success.patches.now
+  pub failures : e.failure.len ≤ length e.failure.patches.now
+  pub won : Below e.count (drop 0 (waiting e.success))
+  pub lost : Below e.count (drop 0 (waiting e.failure))
 
 -- the program of a block that was added from the start
-pub record Finishes (I Y N : List ℕ) (p : Patches) (I' : List ℕ) (r : Compiled) : Type 0 where
-  pub program : (B : Block) (I₀ Y₀ N₀ : List ℕ) → Grew B I₀ Y₀ N₀ start I Y N p
-      → Compiles (resolved (finished B) >>= λ b. done (map assemble b ++ returns)) I' r
+pub record Finishes (e f : Emitter) (r : Out (Unit {0})) : Type 0 where
+  pub program : (c : Code) (d : Emitter) → Fresh d → Grew c d e → Compiles (resolved (finished c.block) >>= λ b. Ok (map assemble b ++ returns)) d f r
 
--- a file with one tree, and room for its notes and pending jumps
-pub record Ready (s M Y N : List ℕ) : Type 0 where
+-- nothing is added yet of the tree of a file, and there is room for its pending jumps
+pub record Begun (s : List ℕ) (e : Emitter) : Type 0 where
+  pub fresh : Fresh e
+  pub facts : e.facts ≡ entry_facts e.link
+  pub insns : weight (tree_of s 0) + 2 ≤ 65536
+  pub successes : weight (tree_of s 0) ≤ length e.success.patches.now
+  pub failures : weight (tree_of s 0) ≤ length e.failure.patches.now
+
+-- a file with one tree, and room for its notes and pending jumps, whatever the emitter holds
+pub record Ready (s : List ℕ) (M : List Note) (e : Emitter) : Type 0 where
   pub noting : Noting s M
   pub proper : Proper (tree_of s 0)
   pub insns : weight (tree_of s 0) + 2 ≤ 65536
-  pub successes : weight (tree_of s 0) ≤ length Y
-  pub failures : weight (tree_of s 0) ≤ length N
+  pub successes : weight (tree_of s 0) ≤ length e.success.patches.now
+  pub failures : weight (tree_of s 0) ≤ length e.failure.patches.now

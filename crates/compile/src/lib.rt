@@ -1,242 +1,137 @@
 // A tree's program: codegen.rs `emit_expr` and `compile`, over the records of a tree file.
 #![tactic(auto)]
 
-ghost use Rattle.std.specs.Prelude.{◌+◌};
+ghost use Rattle.std.specs.Prelude.{◌≡◌, ◌+◌};
 ghost use Rattle.ast.specs.Tree.{And, Or};
 ghost use Rattle.codegen.specs.Emit as E;
 ghost use Rattle.codegen.specs.Compile as C;
 ghost use Rattle.codegen.proofs.Shape.{weight};
-ghost use Rattle.emit.specs.Grown.{Room, Reply};
+ghost use Rattle.emit.specs.Grown.{Empty, Room, Replies};
 ghost use Rattle.reader.specs.Reader.{tree_of, end_of};
 ghost use Rattle.reader.proofs.Here.{TwoParts, OnePart};
 ghost use Rattle.compile.specs.Walks as W;
 
-use ast::LinkType;
-use codegen::Facts;
-use emit::{Emission, Emitted, Patches, otherwise, put_line, resolve_all};
+use ast::Node;
+use bpf::Insn;
+use codegen::Side;
+use emit::Emitter;
 use error::Refusal;
+use guards::Note;
+
+// A tree file, and the notes of its records, which joins read.
+#[derive(Clone, Copy)]
+struct Noted<'a> {
+    tree: &'a [u8],
+    notes: &'a [Note],
+}
 
 // ---- joins
 
-// The tree at record i.
-#[cycle(emission)]
-fn emit_expr(
-    tree: &[u8],
-    notes: &[u64],
-    link: LinkType,
-    insns: &mut [u64],
-    success: &mut [u16],
-    failure: &mut [u16],
-    i: usize,
-    p: Patches,
-    facts: Facts,
-) -> Emission
-    requires { W.Walk tree.now notes.now i × Room (weight (tree_of tree.now i)) success.old failure.old p }
-    ensures { Reply (E.emit link (tree_of tree.now i) facts) insns.old success.old failure.old p insns.new success.new failure.new result }
-{
-    let kind = reader::byte_at(tree, i, 0);
-    match kind {
-        1 => emit_and(tree, notes, link, insns, success, failure, i, p, facts),
-        2 => emit_or(tree, notes, link, insns, success, failure, i, p, facts),
-        3 => emit_not(tree, notes, link, insns, success, failure, i, p, facts),
-        _ => primitives::emit_primitive(tree, i, link, insns, success, failure, p, facts),
-    }
-}
-
-// Left falls through to right on success.
-#[cycle(emission)]
-fn emit_and(
-    tree: &[u8],
-    notes: &[u64],
-    link: LinkType,
-    insns: &mut [u64],
-    success: &mut [u16],
-    failure: &mut [u16],
-    i: usize,
-    p: Patches,
-    facts: Facts,
-) -> Emission
-    requires { W.Walk tree.now notes.now i × TwoParts And tree.now i × Room (weight (tree_of tree.now i)) success.old failure.old p }
-    ensures { Reply (E.emit link (tree_of tree.now i) facts) insns.old success.old failure.old p insns.new success.new failure.new result }
-{
-    match emit_expr(tree, notes, link, insns, success, failure, i + 1, p, facts) {
-        Emission::Refused(r) => Emission::Refused(r),
-        Emission::Done(l) => {
-            let q = l.patches;
-            let g = l.facts;
-            let from = p.success;
-            let to = q.success;
-            let right_start = q.insns;
-            if resolve_all(insns, success, from, to, right_start) {
-                let m = guards::noted_end(notes, i + 1);
-                let t = Patches {
-                    insns: right_start,
-                    success: from,
-                    failure: q.failure,
-                    x_writes: q.x_writes,
-                };
-                return emit_expr(tree, notes, link, insns, success, failure, m, t, g);
-            }
-            Emission::Refused(Refusal::FarJump)
+impl<'a> Noted<'a> {
+    // The tree at record i.
+    // The walk is a clause of five: its record is another at each call.
+    #[cycle(emission)]
+    fn emit_expr(self, i: usize, e: &mut Emitter<'_>) -> Result<(), Refusal>
+        requires walk { W.Walk self.tree.now self.notes.now i }
+        requires room { Room (weight (tree_of self.tree.now i)) e.old }
+        ensures { Replies (E.emit e.old.link (tree_of self.entry.tree.now i) e.old.facts) e.old e.new result }
+    {
+        match reader::node(self.tree, i) {
+            Node::AndNode => self.emit_and(i, e),
+            Node::OrNode => self.emit_or(i, e),
+            Node::NotNode => self.emit_not(i, e),
+            Node::LeafNode(p) => primitives::emit_primitive(e, p),
         }
     }
-}
 
-// The guards of both sides, and then the two sides.
-#[cycle(emission)]
-fn emit_or(
-    tree: &[u8],
-    notes: &[u64],
-    link: LinkType,
-    insns: &mut [u64],
-    success: &mut [u16],
-    failure: &mut [u16],
-    i: usize,
-    p: Patches,
-    facts: Facts,
-) -> Emission
-    requires { W.Walk tree.now notes.now i × TwoParts Or tree.now i × Room (weight (tree_of tree.now i)) success.old failure.old p }
-    ensures { Reply (E.emit link (tree_of tree.now i) facts) insns.old success.old failure.old p insns.new success.new failure.new result }
-{
-    let required = guards::noted_guards(notes, i);
-    match ports::emit_or_hoist(link, insns, failure, p, facts, required) {
-        Emission::Refused(r) => Emission::Refused(r),
-        Emission::Done(h) => {
-            let q = h.patches;
-            let g = h.facts;
-            emit_arms(tree, notes, link, insns, success, failure, i, q, g)
-        }
+    // Left falls through to right on success.
+    // A function for each join, as `emit_expr` has an arm for each: what they do between their sides differs.
+    #[cycle(emission)]
+    fn emit_and(self, i: usize, e: &mut Emitter<'_>) -> Result<(), Refusal>
+        requires walk { W.Walk self.tree.now self.notes.now i }
+        requires parts { TwoParts And self.tree.now i }
+        requires room { Room (weight (tree_of self.tree.now i)) e.old }
+        ensures { Replies (E.emit e.old.link (tree_of self.entry.tree.now i) e.old.facts) e.old e.new result }
+    {
+        let mark = e.success.len;
+        self.emit_expr(i + 1, e)?;
+        e.settle(Side::Success, mark, 0)?;
+        let right = self.notes[i + 1].end;
+        self.emit_expr(right, e)
     }
-}
 
-// Left's failures go to right; left's success jumps past right.
-#[cycle(emission)]
-fn emit_arms(
-    tree: &[u8],
-    notes: &[u64],
-    link: LinkType,
-    insns: &mut [u64],
-    success: &mut [u16],
-    failure: &mut [u16],
-    i: usize,
-    p: Patches,
-    facts: Facts,
-) -> Emission
-    requires { W.Walk tree.now notes.now i × TwoParts Or tree.now i × Room (weight (tree_of tree.now (i + 1)) + 1 + weight (tree_of tree.now (end_of tree.now (i + 1)))) success.old failure.old p }
-    ensures { Reply (W.arms link (tree_of tree.now (i + 1)) (tree_of tree.now (end_of tree.now (i + 1))) facts) insns.old success.old failure.old p insns.new success.new failure.new result }
-{
-    match emit_expr(tree, notes, link, insns, success, failure, i + 1, p, facts) {
-        Emission::Refused(r) => Emission::Refused(r),
-        Emission::Done(l) => {
-            let q = l.patches;
-            let left_facts = l.facts;
-            let branch_facts = facts::restored(q.x_writes != p.x_writes, facts);
-            let mark = p.failure;
-            let settled = otherwise(insns, success, failure, q, mark);
-            if settled.near {
-                let t = settled.patches;
-                return emit_right(
-                    tree,
-                    notes,
-                    link,
-                    insns,
-                    success,
-                    failure,
-                    guards::noted_end(notes, i + 1),
-                    t,
-                    branch_facts,
-                    left_facts,
-                );
-            }
-            Emission::Refused(Refusal::FarJump)
-        }
+    // The guards of both sides, and then the two sides.
+    #[cycle(emission)]
+    fn emit_or(self, i: usize, e: &mut Emitter<'_>) -> Result<(), Refusal>
+        requires walk { W.Walk self.tree.now self.notes.now i }
+        requires parts { TwoParts Or self.tree.now i }
+        requires room { Room (weight (tree_of self.tree.now i)) e.old }
+        ensures { Replies (E.emit e.old.link (tree_of self.entry.tree.now i) e.old.facts) e.old e.new result }
+    {
+        let required = self.notes[i].guards;
+        ports::emit_or_hoist(e, required)?;
+        self.emit_arms(i, e)
     }
-}
 
-// The right side; after it the facts of both sides meet.
-#[cycle(emission)]
-fn emit_right(
-    tree: &[u8],
-    notes: &[u64],
-    link: LinkType,
-    insns: &mut [u64],
-    success: &mut [u16],
-    failure: &mut [u16],
-    i: usize,
-    p: Patches,
-    facts: Facts,
-    left_facts: Facts,
-) -> Emission
-    requires { W.Walk tree.now notes.now i × Room (weight (tree_of tree.now i)) success.old failure.old p }
-    ensures { Reply (W.right_of link (tree_of tree.now i) left_facts facts) insns.old success.old failure.old p insns.new success.new failure.new result }
-{
-    match emit_expr(tree, notes, link, insns, success, failure, i, p, facts) {
-        Emission::Refused(r) => Emission::Refused(r),
-        Emission::Done(t) => {
-            let q = t.patches;
-            let right_facts = t.facts;
-            let g = facts::meet(left_facts, right_facts);
-            Emission::Done(Emitted {
-                patches: q,
-                facts: g,
-            })
-        }
+    // Left's failures go to right; left's success jumps past right. After both, their facts meet.
+    #[cycle(emission)]
+    fn emit_arms(self, i: usize, e: &mut Emitter<'_>) -> Result<(), Refusal>
+        requires walk { W.Walk self.tree.now self.notes.now i }
+        requires parts { TwoParts Or self.tree.now i }
+        requires room { Room (weight (tree_of self.tree.now (i + 1)) + 1 + weight (tree_of self.tree.now (end_of self.tree.now (i + 1)))) e.old }
+        ensures { Replies (W.arms e.old.link (tree_of self.entry.tree.now (i + 1)) (tree_of self.entry.tree.now (end_of self.entry.tree.now (i + 1))) e.old.facts) e.old e.new result }
+    {
+        let facts = e.facts;
+        let x_writes = e.x_writes;
+        let mark = e.failure.len;
+        self.emit_expr(i + 1, e)?;
+        let left = e.facts;
+        let wrote_x = e.x_writes != x_writes;
+        e.otherwise(mark)?;
+        e.facts = facts.restored(wrote_x);
+        let right = self.notes[i + 1].end;
+        self.emit_expr(right, e)?;
+        e.facts = left.meet(e.facts);
+        Ok(())
     }
-}
 
-// The inner failures are the successes here, so the two stacks change places.
-#[cycle(emission)]
-fn emit_not(
-    tree: &[u8],
-    notes: &[u64],
-    link: LinkType,
-    insns: &mut [u64],
-    success: &mut [u16],
-    failure: &mut [u16],
-    i: usize,
-    p: Patches,
-    facts: Facts,
-) -> Emission
-    requires { W.Walk tree.now notes.now i × OnePart tree.now i × Room (weight (tree_of tree.now i)) success.old failure.old p }
-    ensures { Reply (E.emit link (tree_of tree.now i) facts) insns.old success.old failure.old p insns.new success.new failure.new result }
-{
-    let s = Patches {
-        insns: p.insns,
-        success: p.failure,
-        failure: p.success,
-        x_writes: p.x_writes,
-    };
-    match emit_expr(tree, notes, link, insns, failure, success, i + 1, s, facts) {
-        Emission::Refused(r) => Emission::Refused(r),
-        Emission::Done(e) => {
-            let q = e.patches;
-            let entry_facts = facts::restored(q.x_writes != p.x_writes, facts);
-            let mark = p.success;
-            let settled = otherwise(insns, failure, success, q, mark);
-            if settled.near {
-                let t = settled.patches;
-                let u = Patches {
-                    insns: t.insns,
-                    success: t.failure,
-                    failure: t.success,
-                    x_writes: t.x_writes,
-                };
-                return Emission::Done(Emitted {
-                    patches: u,
-                    facts: entry_facts,
-                });
-            }
-            Emission::Refused(Refusal::FarJump)
-        }
+    // The inner failures are the successes here, so the two stacks change places.
+    #[cycle(emission)]
+    fn emit_not(self, i: usize, e: &mut Emitter<'_>) -> Result<(), Refusal>
+        requires walk { W.Walk self.tree.now self.notes.now i }
+        requires part { OnePart self.tree.now i }
+        requires room { Room (weight (tree_of self.tree.now i)) e.old }
+        ensures { Replies (E.emit e.old.link (tree_of self.entry.tree.now i) e.old.facts) e.old e.new result }
+    {
+        let facts = e.facts;
+        let x_writes = e.x_writes;
+        e.turn();
+        let mark = e.failure.len;
+        self.emit_expr(i + 1, e)?;
+        let wrote_x = e.x_writes != x_writes;
+        e.otherwise(mark)?;
+        e.turn();
+        e.facts = facts.restored(wrote_x);
+        Ok(())
     }
 }
 
 // ---- the program
 
-// The lines of the two returns.
-const ACCEPT: u64 = 0xffff_ffff_0000_0006;
+// The two returns.
+const ACCEPT: Insn = Insn {
+    code: 0x06,
+    jt: 0,
+    jf: 0,
+    k: 0xffff_ffff,
+};
 
-const DROP: u64 = 0x0000_0000_0000_0006;
+const DROP: Insn = Insn {
+    code: 0x06,
+    jt: 0,
+    jf: 0,
+    k: 0,
+};
 
 // The lengths of a file's header and of a record, and that of a file of two records, in which no tree has a join.
 const HEADER: usize = 8;
@@ -245,33 +140,20 @@ const RECORD: usize = 24;
 
 const JOINLESS: usize = 56;
 
-#[derive(Clone, Copy)]
-pub enum Compiled {
-    Count(usize),
-    Refused(Refusal),
-}
-
 // The open exits go to the two returns: success to the first, failure to the second.
-fn finish(insns: &mut [u64], success: &mut [u16], failure: &mut [u16], p: Patches) -> Compiled
-    requires { W.Ended success.old failure.old p }
-    ensures { W.Finishes insns.old success.old failure.old p insns.new result }
+fn finish(e: &mut Emitter<'_>) -> Result<(), Refusal>
+    requires { W.Ended e.old }
+    ensures { W.Finishes e.old e.new result }
 {
-    let accept = p.insns;
-    let to_accept = p.success;
-    let to_drop = p.failure;
-    if resolve_all(insns, success, 0, to_accept, accept) {
-        if resolve_all(insns, failure, 0, to_drop, accept + 1) {
-            put_line(insns, accept, ACCEPT);
-            put_line(insns, accept + 1, DROP);
-            return Compiled::Count(accept + 2);
-        }
-        return Compiled::Refused(Refusal::FarJump);
-    }
-    Compiled::Refused(Refusal::FarJump)
+    e.settle(Side::Success, 0, 0)?;
+    e.settle(Side::Failure, 0, 1)?;
+    e.put(ACCEPT);
+    e.put(DROP);
+    Ok(())
 }
 
 // The notes that joins read.
-fn note_joins(tree: &[u8], notes: &mut [u64])
+fn note_joins(tree: &[u8], notes: &mut [Note])
     requires { W.Noting tree.now notes.old }
     ensures { W.Joined tree.now notes.new }
 {
@@ -280,31 +162,25 @@ fn note_joins(tree: &[u8], notes: &mut [u64])
     }
 }
 
-// The program of the file's tree, its lines in `insns` as far as these reach.
-pub fn compile(
-    tree: &[u8],
-    link: LinkType,
-    notes: &mut [u64],
-    insns: &mut [u64],
-    success: &mut [u16],
-    failure: &mut [u16],
-) -> Compiled
-    requires { W.Ready tree.now notes.old success.old failure.old }
-    ensures { W.Compiles (C.compile link (tree_of tree.now 0)) insns.new result }
+// Nothing is added yet, and what the link type tells holds.
+fn begin(e: &mut Emitter<'_>)
+    ensures { Empty e.old.link (C.entry_facts e.old.link) e.old.insns.now e.old.success.patches.now e.old.failure.patches.now e.new }
+{
+    e.count = 0;
+    e.success.len = 0;
+    e.failure.len = 0;
+    e.x_writes = 0;
+    e.facts = facts::entry_facts(e.link);
+}
+
+// The program of the file's tree, over whatever the emitter held.
+pub fn compile(tree: &[u8], notes: &mut [Note], e: &mut Emitter<'_>) -> Result<(), Refusal>
+    requires { W.Ready tree.now notes.old e.old }
+    ensures { W.Compiles (C.compile e.old.link (tree_of tree.now 0)) e.old e.new result }
 {
     note_joins(tree, notes);
-    let facts = facts::entry_facts(link);
-    let p = Patches {
-        insns: 0,
-        success: 0,
-        failure: 0,
-        x_writes: 0,
-    };
-    match emit_expr(tree, notes, link, insns, success, failure, 0, p, facts) {
-        Emission::Refused(r) => Compiled::Refused(r),
-        Emission::Done(e) => {
-            let q = e.patches;
-            finish(insns, success, failure, q)
-        }
-    }
+    let file = Noted { tree, notes };
+    begin(e);
+    file.emit_expr(0, e)?;
+    finish(e)
 }

@@ -1,4 +1,5 @@
 -- What was compiled, as `generate` promises it, and arrays that are long enough.
+use Rattle.std.specs.Prelude.{Ok, Err}
 use Prim.Native.Nat.{ℕ, zero, suc, ◌+◌, ◌-◌, ◌*◌, ◌/◌, ◌≤◌, ◌<◌}
 use mathlib.Core.Path.{◌≡◌, refl, sym, ap, ◌∙◌, subst}
 use mathlib.Core.List.{List, ◌++◌, map}
@@ -6,7 +7,7 @@ use native.Mathlib.Omega.{arith}
 use borrow.Author.Tests.{lt-ltb, le-ltb}
 use lib.ListN.{length, take, drop, length-append, length-map}
 use Rattle.error.specs.declared.Refusal.{Refusal}
-use Rattle.error.specs.Answer.{Out, refused, done}
+use Rattle.error.specs.Answer.{Out}
 use Rattle.error.proofs.All.{All, all_bind}
 use Rattle.bpf.specs.declared.Insn.{Insn}
 use Rattle.bpf.specs.Program.{program_bytes}
@@ -21,12 +22,13 @@ use Rattle.codegen.proofs.Semantics.{length_settle}
 use Rattle.codegen.proofs.Shape.{Fits, weight, tree_shape}
 use Rattle.codegen.proofs.Sound.{weight_records}
 use Rattle.codegen.proofs.Joins.{resolved_then}
+use Rattle.emit.specs.declared.Emitter.{Emitter}
+use Rattle.emit.specs.declared.Patch.{Patch}
+use Rattle.emit.specs.Grown.{Empty, Answers}
+use Rattle.guards.specs.declared.Note.{Note}
 use Rattle.reader.specs.Reader.{tree_of}
-use Rattle.output.specs.Words.{bytes_of}
-use Rattle.compile.specs.declared.Compiled.{Compiled}
-use Rattle.compile.specs.declared.Compiled.TheVariants as C
-use Rattle.compile.specs.Walks.{Programs, Compiles, Ready}
-use Rattle.generate.specs.Promises.{Stands, Lined, counted, Counts, Generates}
+use Rattle.compile.specs.Walks.{Holds, Compiles, Ready}
+use Rattle.generate.specs.Promises.{Stands, Suffices, counted, Counts, Generates}
 
 -- ---- how long a program is
 
@@ -42,54 +44,65 @@ compile_size L t h =
 
 -- ---- what was compiled
 
-pub record Held (o : Out (List Insn)) (I : List ℕ) (n : ℕ) : Type 0 where
+pub record Held (o : Out (List Insn)) (d e : Emitter) : Type 0 where
   pub made : List Insn
-  pub eq : o ≡ done made
-  pub size : n ≡ length made
-  pub bytes : n ≤ length I → bytes_of (take n I) ≡ program_bytes made
+  pub eq : o ≡ Ok made
+  pub holds : Holds made d e
 
-refused_of : (o : Out (List Insn)) (I : List ℕ) (q : Refusal) → Programs o I (C.Refused q) → o ≡ refused q
-refused_of (done p) I q h = absurd h
-refused_of (refused r) I q h = ap refused (sym h)
+refused_of : (o : Out (List Insn)) (d e : Emitter) (q : Refusal) → Answers o (λ p. Holds p d e) (Err q) → o ≡ Err q
+refused_of (Ok p) d e q h = absurd h
+refused_of (Err r) d e q h = ap Err (sym h)
 
-held_of : (o : Out (List Insn)) (I : List ℕ) (n : ℕ) → Programs o I (C.Count n) → Held o I n
-held_of (done p) I n h = record { made = p; eq = refl; size = h.0; bytes = h.1 }
-held_of (refused r) I n h = absurd h
+held_of : (o : Out (List Insn)) (d e : Emitter) (u : Unit {0}) → Answers o (λ p. Holds p d e) (Ok u) → Held o d e
+held_of (Ok p) d e u h = record { made = p; eq = refl; holds = h }
+held_of (Err r) d e u h = absurd h
 
-module _ {o : Out (List Insn)} {I : List ℕ} {r : Compiled} (h : Compiles o I r) where
-  pub not_made : {q : Refusal} → r ≡ C.Refused q → o ≡ refused q
-  not_made {q} e = refused_of o I q (subst (λ x. Programs o I x) e h.is)
+module _ {o : Out (List Insn)} {d e : Emitter} {r : Out (Unit {0})} (h : Compiles o d e r) where
+  not_made : {q : Refusal} → r ≡ Err q → o ≡ Err q
+  not_made {q} w = refused_of o d e q (subst (λ x. Answers o (λ p. Holds p d e) x) w h.is)
 
-  pub held : {n : ℕ} → r ≡ C.Count n → Held o I n
-  held {n} e = held_of o I n (subst (λ x. Programs o I x) e h.is)
+  held : {u : Unit {0}} → r ≡ Ok u → Held o d e
+  held {u} w = held_of o d e u (subst (λ x. Answers o (λ p. Holds p d e) x) w h.is)
 
-pub held_few : {I : List ℕ} {n : ℕ} (L : LinkType) (t : Expr) → Proper t → Held (compile L t) I n → n ≤ weight t + 2
-held_few L t p h = omega (arith, subst (All (λ q. length q ≤ weight t + 2)) h.eq (compile_size L t p), h.size)
+held_few : {d e : Emitter} (L : LinkType) (t : Expr) → Proper t → Held (compile L t) d e → e.count ≤ weight t + 2
+held_few L t p h = omega (arith, subst (All (λ q. length q ≤ weight t + 2)) h.eq (compile_size L t p), h.holds.count)
 
--- lines that were lent reach to the end of a program that the part holds
-pub reaches : {s I b : List ℕ} {n : ℕ} → Lined s I b → n ≤ weight (tree_of s 0) + 2 → 8 * n ≤ length b → n ≤ length I
-reaches {I = I} {b} {n} l f h = by (length b) refl
-  where
-    by : (k : ℕ) → length b ≡ k → n ≤ length I
-    by zero e = omega arith
-    by (suc k) e = omega (arith, l.reach (omega arith))
+-- what was compiled for an emitter's link type
+pub held_by : {L : LinkType} (t : Expr) {d e : Emitter} {r : Out (Unit {0})} {u : Unit {0}} → d.link ≡ L → Compiles (compile d.link t) d e r → r ≡ Ok u → Held (compile L t) d e
+held_by t {d = d} {e = e} {r = r} w h q = held (subst (λ K. Compiles (compile K t) d e r) w h) q
+
+pub not_made_by : {L : LinkType} (t : Expr) {d e : Emitter} {r : Out (Unit {0})} {q : Refusal} → d.link ≡ L → Compiles (compile d.link t) d e r → r ≡ Err q → compile L t ≡ Err q
+not_made_by t {d = d} {e = e} {r = r} w h p = not_made (subst (λ K. Compiles (compile K t) d e r) w h) p
+
+module _ (L : LinkType) {s : List ℕ} {n l j lent : ℕ} {d e : Emitter} (c : Stands s) (z : Suffices s n l j lent) (h : Held (compile L (tree_of s 0)) d e) where
+  pub few_lines : e.count ≤ 65536
+  few_lines = omega (arith, held_few L (tree_of s 0) c.proper h, z.places)
+
+  -- a program that the part holds stands in the row to its end
+  pub reaches : length d.insns.now ≡ l → 8 * e.count ≤ lent → e.count ≤ length e.insns.now
+  reaches m k = go lent z.lines k
+    where
+      go : (a : ℕ) → (0 < a → weight (tree_of s 0) + 2 ≤ l) → 8 * e.count ≤ a → e.count ≤ length e.insns.now
+      go zero i k = omega (arith, k)
+      go (suc a) i k = omega (arith, held_few L (tree_of s 0) c.proper h, i (omega arith), h.holds.row, m)
 
 -- ---- in the part
 
-pub part_refused : {o : Out (List Insn)} {b : List ℕ} {q : Refusal} → o ≡ refused q → Generates o b b (C.Refused q)
+pub part_refused : {o : Out (List Insn)} {b : List ℕ} {q : Refusal} → o ≡ Err q → Generates o b b (Err q)
 part_refused e = record { counts = record { answer = rw e; few = omega arith }; part = rw e }
 
-module _ {o : Out (List Insn)} {I : List ℕ} {n : ℕ} (h : Held o I n) (cap : n ≤ 65536) where
-  held_counts : Counts o (C.Count n)
-  held_counts = record { answer = rw h.eq (ap C.Count h.size); few = cap }
+module _ {o : Out (List Insn)} {d e : Emitter} (h : Held o d e) (cap : e.count ≤ 65536) where
+  held_counts : Counts o (Ok e.count)
+  held_counts = record { answer = rw h.eq (ap Ok h.holds.count); few = cap }
 
-  pub part_short : {b : List ℕ} → length b < 8 * n → Generates o b b (C.Count n)
-  part_short {b} s = let t = lt-ltb (length b) (8 * length h.made) (rw h.size at s) in record { counts = held_counts; part = rw (h.eq, t) }
+  pub part_short : {b : List ℕ} → length b < 8 * e.count → Generates o b b (Ok e.count)
+  part_short {b} s = let t = lt-ltb (length b) (8 * length h.made) (rw h.holds.count at s) in record { counts = held_counts; part = rw (h.eq, t) }
 
-  pub part_written : {b b' : List ℕ} → 8 * n ≤ length b → n ≤ length I → b' ≡ bytes_of (take n I) ++ drop (8 * n) b → Generates o b b' (C.Count n)
+  pub part_written : {b b' : List ℕ} → 8 * e.count ≤ length b → e.count ≤ length e.insns.now
+      → b' ≡ program_bytes (take e.count e.insns.now) ++ drop (8 * e.count) b → Generates o b b' (Ok e.count)
   part_written {b} s i w =
-      let t = le-ltb (length b) (8 * length h.made) (rw h.size at s) in
-      record { counts = held_counts; part = rw (h.eq, t) (w ∙ rw (h.bytes i, h.size)) }
+      let t = le-ltb (length b) (8 * length h.made) (rw h.holds.count at s) in
+      record { counts = held_counts; part = rw (h.eq, t) (w ∙ rw (h.holds.insns i, h.holds.count)) }
 
 -- ---- arrays for so many records
 
@@ -97,53 +110,51 @@ module _ {o : Out (List Insn)} {I : List ℕ} {n : ℕ} (h : Held o I n) (cap : 
 abbrev lines_of : ℕ → ℕ
 lines_of n = 60 * (suc n / 2) + suc n - 25
 
-pub most_lines : (s : List ℕ) (most : ℕ) → Stands s → File.count_of s ≤ most → weight (tree_of s 0) ≤ lines_of most
+most_lines : (s : List ℕ) (most : ℕ) → Stands s → File.count_of s ≤ most → weight (tree_of s 0) ≤ lines_of most
 most_lines s most c few = omega (arith, weight_records (tree_of s 0), c.size)
 
-pub ready : {s M Y N : List ℕ} (most : ℕ) → Stands s → File.count_of s ≤ most → (2 < most → 5 * most ≤ length M) → lines_of most ≤ length Y → lines_of most ≤ length N
-    → lines_of most ≤ 65534 → Ready s M Y N
-ready {s} most c few m y n cap =
+pub suffices : {s : List ℕ} {n l j lent : ℕ} (most : ℕ) → Stands s → File.count_of s ≤ most → (2 < most → most ≤ n) → lines_of most ≤ j → lines_of most + 2 ≤ l
+    → lines_of most ≤ 65534 → n ≤ 4096 → l ≤ 4096 → j ≤ 4096 → Suffices s n l j lent
+suffices {s} most c few m y i cap a b d =
     let w = most_lines s most c few in
-    record {
-      noting = record { here = c.here; notes = λ k. omega (arith, m (omega arith)) };
-      proper = c.proper;
-      insns = omega arith;
-      successes = omega arith;
-      failures = omega arith;
-    }
+    record { notes = λ k. omega (arith, m (omega arith)); jumps = omega arith; places = omega arith; lines = λ k. omega arith; few = (a, b, d) }
 
-pub lined : {s I b : List ℕ} (most : ℕ) → Stands s → File.count_of s ≤ most → lines_of most + 2 ≤ length I → Lined s I b
-lined {s} most c few i = record { reach = λ k. omega (arith, most_lines s most c few) }
-
--- none are asked for where the part is empty
-pub lined_none : {s I b : List ℕ} → length b ≡ 0 → Lined s I b
-lined_none e = record { reach = λ k. absurd (omega arith) }
+-- an emitter that holds nothing yet, over arrays that suffice
+pub ready : {L : LinkType} {s : List ℕ} {M : List Note} {I : List Insn} {Y N : List Patch} {n l j lent : ℕ} {e : Emitter} → Stands s → Suffices s n l j lent
+    → length M ≡ n → length Y ≡ j → length N ≡ j → Empty L (entry_facts L) I Y N e → Ready s M e
+ready c z m y k h = record {
+  noting = record { here = c.here; notes = λ w. omega (arith, z.notes w, m) };
+  proper = c.proper;
+  insns = z.places;
+  successes = omega (arith, z.jumps, y, ap length h.won);
+  failures = omega (arith, z.jumps, k, ap length h.lost);
+}
 
 -- ---- what a caller is told
 
-never : {A : Type 0} {r : Refusal} {n : ℕ} → ◌≡◌ {A = Compiled} (C.Refused r) (C.Count n) → A
+never : {A : Type 0} {r : Refusal} {n : ℕ} → ◌≡◌ {A = (Out ℕ)} (Err r) (Ok n) → A
 never e = let z : ◌≡◌ {A = ℕ} 0 1 = cc in absurd (omega arith)
 
 -- the program of a count
 pub record Made (o : Out (List Insn)) (n : ℕ) : Type 0 where
   pub insns : List Insn
-  pub eq : o ≡ done insns
+  pub eq : o ≡ Ok insns
   pub size : n ≡ length insns
 
-made_by : (o : Out (List Insn)) (n : ℕ) → C.Count n ≡ counted o → Made o n
-made_by (refused r) n e = never (sym e)
-made_by (done p) n e = record { insns = p; eq = refl; size = cc }
+made_by : (o : Out (List Insn)) (n : ℕ) → Ok n ≡ counted o → Made o n
+made_by (Err r) n e = never (sym e)
+made_by (Ok p) n e = record { insns = p; eq = refl; size = cc }
 
-turned_by : (o : Out (List Insn)) (q : Refusal) → C.Refused q ≡ counted o → o ≡ refused q
-turned_by (refused r) q e = cc
-turned_by (done p) q e = never e
+turned_by : (o : Out (List Insn)) (q : Refusal) → Err q ≡ counted o → o ≡ Err q
+turned_by (Err r) q e = cc
+turned_by (Ok p) q e = never e
 
-module _ {o : Out (List Insn)} {r : Compiled} (g : Counts o r) where
-  pub made : {n : ℕ} → r ≡ C.Count n → Made o n
+module _ {o : Out (List Insn)} {r : Out ℕ} (g : Counts o r) where
+  pub made : {n : ℕ} → r ≡ Ok n → Made o n
   made {n} e = made_by o n (sym e ∙ g.answer)
 
-  pub turned : {q : Refusal} → r ≡ C.Refused q → o ≡ refused q
+  pub turned : {q : Refusal} → r ≡ Err q → o ≡ Err q
   turned {q} e = turned_by o q (sym e ∙ g.answer)
 
-  pub few : {n : ℕ} → r ≡ C.Count n → n ≤ 65536
+  pub few : {n : ℕ} → r ≡ Ok n → n ≤ 65536
   few e = rw e at g.few

@@ -1,14 +1,16 @@
-use native.Mathlib.Omega.{arith}
-use mathlib.Core.Path.{sym, ◌∙◌}
+use Rattle.std.proofs.Common.{arith, sym, ◌∙◌}
+use Rattle.std.proofs.lemmas.Result.{err_from_is_err_and}
 use Rattle.generate.proofs.Generating.{part_refused}
 use Rattle.build.proofs.Building.{stands, program_of_lem, program_refused}
 use Rattle.build.proofs.generated.Goals as goal
 
+pub returns-in_err-link : goal.returns-in_err-link
+returns-in_err-link c =
+    let p = err_from_is_err_and c.from_residual.result c.from_residual.ensures.1 in
+    rw (p.1, p.2) (part_refused (program_refused c.args.tree.now _ (sym c.check.ensures ∙ c.in_err-link.was)))
+
 pub generate-requires : goal.generate-requires
-generate-requires c = stands c.args.tree.now c.in-Link.link (λ i. omega (arith, c.type_inv.tree i)) (sym c.check.ensures ∙ c.in-Link.is)
+generate-requires c = stands c.args.tree.now c.in_ok-link.link (λ i. omega (arith, c.type_inv.tree i)) (sym c.check.ensures ∙ c.in_ok-link.was)
 
-pub returns-in-Refused : goal.returns-in-Refused
-returns-in-Refused c = part_refused (program_refused c.args.tree.now c.in-Refused.r (sym c.check.ensures ∙ c.in-Refused.is))
-
-pub returns-in-Link : goal.returns-in-Link
-returns-in-Link c = rw (program_of_lem c.args.tree.now c.in-Link.link (sym c.check.ensures ∙ c.in-Link.is)) c.generate.ensures
+pub returns : goal.returns
+returns c = rw (program_of_lem c.args.tree.now c.in_ok-link.link (sym c.check.ensures ∙ c.in_ok-link.was)) c.generate.ensures

@@ -1,41 +1,19 @@
-use native.Mathlib.Omega.{arith}
-use Rattle.emit.proofs.Resolving.{below_more}
-use Rattle.codegen.specs.Compile.{finished}
-use Prim.Native.Nat.{◌+◌}
-use lib.ListN.{drop}
-use lib.Seq.{slice}
-use Rattle.emit.proofs.Outcome.{far_is, far_not}
-use Rattle.compile.proofs.Endings.{first_far, second_near, second_lines, second_length, done_program, far_program}
+use Rattle.std.proofs.lemmas.Result.{err_from_is_err_and}
+use Rattle.compile.proofs.Endings.{second_open, first_refused, second_refused, program}
 use Rattle.compile.proofs.finish.Goals as goal
 
-pub resolve_all-requires-then-resolve_all : goal.resolve_all-requires-then-resolve_all
-resolve_all-requires-then-resolve_all c = let p = c.requires in (omega arith, omega arith, below_more c.args.p.insns (c.args.p.insns + 1) (slice 0 c.args.p.failure c.args.failure.now) (omega arith) p.lost)
+pub returns-in_err-settle : goal.returns-in_err-settle
+returns-in_err-settle c =
+    let p = err_from_is_err_and c.from_residual.result c.from_residual.ensures.1 in
+    rw (p.1, p.2) (record { program = λ k d s g. first_refused c.settle.ensures k d s g c.in_err-settle.was })
 
-pub returns-then-resolve_all-2 : goal.returns-then-resolve_all-2
-returns-then-resolve_all-2 c = record {
-  program = λ B I₀ Y₀ N₀ g.
-      let a = c.args in
-      let p = c.requires in
-      let I₁ = c.resolve_all.new.insns in
-      let I₂ = c.resolve_all-then-resolve_all.new.insns in
-      let f = far_not _ _ (second_near g I₁ c.resolve_all.result c.resolve_all.ensures c.if-resolve_all.true I₂ c.resolve_all-then-resolve_all.result c.resolve_all-then-resolve_all.ensures) c.if-resolve_all-2.true in
-      rw (c.put_line-then-resolve_all-2.ensures, c.put_line.ensures)
-      (done_program (finished B) I₂ (drop a.p.insns I₁) a.p.insns f
-      (second_length g I₁ c.resolve_all.result c.resolve_all.ensures c.if-resolve_all.true I₂ c.resolve_all-then-resolve_all.result c.resolve_all-then-resolve_all.ensures)
-      (second_lines g I₁ c.resolve_all.result c.resolve_all.ensures c.if-resolve_all.true I₂ c.resolve_all-then-resolve_all.result c.resolve_all-then-resolve_all.ensures f));
-}
+pub settle-requires-2 : goal.settle-requires-2
+settle-requires-2 c = second_open c.requires c.settle.ensures c.in_ok-settle.was
 
-pub returns-then-resolve_all : goal.returns-then-resolve_all
-returns-then-resolve_all c = record {
-  program = λ B I₀ Y₀ N₀ g.
-      let I₁ = c.resolve_all.new.insns in
-      let I₂ = c.resolve_all-then-resolve_all.new.insns in
-      far_program (finished B) I₂ (far_is _ _ (second_near g I₁ c.resolve_all.result c.resolve_all.ensures c.if-resolve_all.true I₂ c.resolve_all-then-resolve_all.result c.resolve_all-then-resolve_all.ensures) c.if-resolve_all-2.false);
-}
+pub returns-in_err-settle-2 : goal.returns-in_err-settle-2
+returns-in_err-settle-2 c =
+    let p = err_from_is_err_and c.from_residual-in_err-settle-2.result c.from_residual-in_err-settle-2.ensures.1 in
+    rw (p.1, p.2) (record { program = λ k d s g. second_refused c.settle.ensures k d s g c.in_ok-settle.was c.settle-2.ensures c.in_err-settle-2.was })
 
 pub returns : goal.returns
-returns c = record {
-  program = λ B I₀ Y₀ N₀ g.
-      let I₁ = c.resolve_all.new.insns in
-      far_program (finished B) I₁ (first_far g I₁ c.resolve_all.result c.resolve_all.ensures c.if-resolve_all.false);
-}
+returns c = record { program = λ k d s g. program c.settle.ensures k d s g c.in_ok-settle.was c.settle-2.ensures c.in_ok-settle-2.was c.put.ensures c.put-2.ensures }
