@@ -1,57 +1,45 @@
 -- The definitions as the code meets them.
+use Rattle.std.specs.Prelude.{Ok, Err}
 use Prim.Native.Nat.{ℕ, ◌+◌, ◌-◌, ◌≤◌, ◌<◌}
 use mathlib.Core.Path.{◌≡◌, refl}
 use mathlib.Core.List.{List}
 use mathlib.Core.Bool.{Bool, true, false, cond}
-use native.Mathlib.Omega.{arith}
 use borrow.Author.Tests.{ltb-false, lt-ltb, le-ltb}
 use lib.ListN.{length, drop, length-drop}
 use lib.Dec.{ltb, eqb}
-use Rattle.error.specs.declared.Refusal.{Refusal}
 use Rattle.error.specs.declared.Refusal.TheVariants.{NoCapture, OtherLink}
-use Rattle.error.specs.Answer.{Out, refused, done, ◌>>=◌}
+use Rattle.error.specs.Answer.{Out, ◌>>=◌}
 use Rattle.ast.specs.declared.LinkType.{LinkType}
 use Rattle.capture.specs.declared.Order.{Order}
 use Rattle.capture.specs.declared.Order.TheVariants.{Big, Little}
-use Rattle.capture.specs.declared.Opened.{Opened}
-use Rattle.capture.specs.declared.Opened.TheVariants.{In, Refused}
 use Rattle.capture.specs.declared.Front.TheVariants.{Whole, Past, Over}
 use Rattle.capture.specs.Capture.{number_at, is_mark, order_of, field_of, opened, front}
-use Rattle.capture.specs.Promises.{opened_of}
 use Rattle.capture.proofs.Numbers.{number_drop}
 
 -- ---- the file header
 
-pub opened_in : (x : Out Order) {o : Order} {r : Opened} → r ≡ opened_of x → r ≡ In o → x ≡ done o
-opened_in (refused q) e h = let z : ◌≡◌ {A = ℕ} 0 1 = cc in absurd (omega arith)
-opened_in (done p) e h = cc
-
-pub opened_refused : (x : Out Order) {q : Refusal} {r : Opened} → r ≡ opened_of x → r ≡ Refused q → x ≡ refused q
-opened_refused (refused p) e h = cc
-opened_refused (done o) e h = let z : ◌≡◌ {A = ℕ} 0 1 = cc in absurd (omega arith)
-
-pub order_long : (s : List ℕ) {o : Order} → order_of s ≡ done o → 24 ≤ length s
+pub order_long : (s : List ℕ) {o : Order} → order_of s ≡ Ok o → 24 ≤ length s
 unfolding order_of
 order_long s {o = o} e = go (ltb (length s) 24) refl e
   where
     go : (a : Bool) → ltb (length s) 24 ≡ a
-        → cond a (refused NoCapture) (cond (is_mark (number_at Big 0 s)) (done Big) (cond (is_mark (number_at Little 0 s)) (done Little) (refused NoCapture))) ≡ done o → 24 ≤ length s
-    go true p e = let z : ◌≡◌ {A = ℕ} 0 1 = cc in absurd (omega arith)
+        → cond a (Err NoCapture) (cond (is_mark (number_at Big 0 s)) (Ok Big) (cond (is_mark (number_at Little 0 s)) (Ok Little) (Err NoCapture))) ≡ Ok o → 24 ≤ length s
+    go true p e = absurd cc
     go false p e = ltb-false (length s) 24 p
 
-opened_order : (link : LinkType) (s : List ℕ) (o : Order) → opened link s ≡ done o → order_of s ≡ done o
+opened_order : (link : LinkType) (s : List ℕ) (o : Order) → opened link s ≡ Ok o → order_of s ≡ Ok o
 unfolding opened
 opened_order link s o e = go (order_of s) e
   where
-    on : (p : Order) (b : Bool) → cond b (done p) (refused OtherLink) ≡ done o → done p ≡ done o
+    on : (p : Order) (b : Bool) → ◌≡◌ {A = Out Order} (cond b (Ok p) (Err OtherLink)) (Ok o) → ◌≡◌ {A = Out Order} (Ok p) (Ok o)
     on p true e = e
-    on p false e = let z : ◌≡◌ {A = ℕ} 0 1 = cc in absurd (omega arith)
+    on p false e = absurd cc
 
-    go : (x : Out Order) → (x >>= λ p. cond (eqb (number_at p 20 s) (field_of link)) (done p) (refused OtherLink)) ≡ done o → x ≡ done o
-    go (refused r) e = let z : ◌≡◌ {A = ℕ} 0 1 = cc in absurd (omega arith)
-    go (done p) e = on p (eqb (number_at p 20 s) (field_of link)) e
+    go : (x : Out Order) → (x >>= λ p. cond (eqb (number_at p 20 s) (field_of link)) (Ok p) (Err OtherLink)) ≡ Ok o → x ≡ Ok o
+    go (Err r) e = absurd cc
+    go (Ok p) e = on p (eqb (number_at p 20 s) (field_of link)) e
 
-pub opened_long : (link : LinkType) (s : List ℕ) (o : Order) → opened link s ≡ done o → 24 ≤ length s
+pub opened_long : (link : LinkType) (s : List ℕ) (o : Order) → opened link s ≡ Ok o → 24 ≤ length s
 opened_long link s o e = order_long s (opened_order link s o e)
 
 -- two files with the same mark and link field
@@ -65,10 +53,10 @@ module _ (s t : List ℕ) (h : 24 ≤ length s) (k : 24 ≤ length t) (mark : (o
   opened_alike link field = rw order_alike (go (order_of s))
     where
       go : (x : Out Order)
-          → (x >>= λ o. cond (eqb (number_at o 20 t) (field_of link)) (done o) (refused OtherLink))
-          ≡ (x >>= λ o. cond (eqb (number_at o 20 s) (field_of link)) (done o) (refused OtherLink))
-      go (refused r) = refl
-      go (done o) = rw (field o)
+          → (x >>= λ o. cond (eqb (number_at o 20 t) (field_of link)) (Ok o) (Err OtherLink))
+          ≡ (x >>= λ o. cond (eqb (number_at o 20 s) (field_of link)) (Ok o) (Err OtherLink))
+      go (Err r) = refl
+      go (Ok o) = rw (field o)
 
 -- ---- the front at a place
 

@@ -1,5 +1,9 @@
 -- Small captures, computed. The headers are as libpcap writes them (version 2.4, snap length 262,144); the places are those that the
 -- format's description gives, the counts those of libpcap with the filter `ip`, and the limit and the numbers of refusals T-01's.
+use Rattle.std.specs.Prelude.{Result}
+use Rattle.capture.specs.declared.Halt.{Halt}
+use Rattle.capture.specs.declared.Tally.{Tally}
+use Rattle.std.specs.Prelude.{Ok, Err}
 use Prim.Native.Nat.{ℕ}
 use mathlib.Core.Path.{◌≡◌, refl}
 use mathlib.Core.List.{List, [], ◌∷◌, ◌++◌}
@@ -7,7 +11,6 @@ use mathlib.Core.Bool.{Bool, true, ◌&&◌}
 use lib.ListN.{take, replicate}
 use lib.Dec.{eqb, T}
 use Rattle.error.specs.declared.Refusal.TheVariants.{NoCapture, CutFrame}
-use Rattle.error.specs.Answer.{refused, done}
 use Rattle.bpf.specs.Bytes.{be, le_at}
 use Rattle.bpf.specs.Program.{insn_at, insns_at}
 use Rattle.vm.specs.Machine.{load, sized_load, scratch, ld, ldx, alu, jmp, effect, exec, inner, run}
@@ -15,7 +18,6 @@ use Rattle.ast.specs.declared.LinkType.{LinkType}
 use Rattle.ast.specs.declared.LinkType.TheVariants.{Ethernet, RawIp, LinuxSll}
 use Rattle.capture.specs.declared.Order.{Order}
 use Rattle.capture.specs.declared.Order.TheVariants.{Big, Little}
-use Rattle.capture.specs.declared.CountResult.{CountResult}
 use Rattle.capture.specs.Capture.{order_of, opened, front, piece, frames_after, frames, frames_of, frame_at}
 use Rattle.capture.specs.Counting.{passing, counted, refusal_of, frames_in}
 
@@ -64,19 +66,19 @@ cut_body = refl
 two : List ℕ
 two = little ++ (frame Little (3 ∷ 0 ∷ 0 ∷ 0 ∷ []) 3 ++ frame Little (1 ∷ 0 ∷ 0 ∷ 0 ∷ []) 1)
 
-first : frame_at two 24 ≡ done 3
+first : frame_at two 24 ≡ Ok 3
 unfolding two little frame frame_at order_of front be le_at
 first = refl
 
-second : frame_at two 43 ≡ done 1
+second : frame_at two 43 ≡ Ok 1
 unfolding two little frame frame_at order_of front be le_at
 second = refl
 
-no_more : frame_at two 60 ≡ refused CutFrame
+no_more : frame_at two 60 ≡ Err CutFrame
 unfolding two little frame frame_at order_of front be le_at
 no_more = refl
 
-none_in : frame_at (patched ++ frame Big (0 ∷ 0 ∷ 0 ∷ 3 ∷ []) 3) 24 ≡ refused NoCapture
+none_in : frame_at (patched ++ frame Big (0 ∷ 0 ∷ 0 ∷ 3 ∷ []) 3) 24 ≡ Err NoCapture
 unfolding patched frame frame_at order_of be le_at
 none_in = refl
 
@@ -97,7 +99,7 @@ typed n = frame Big (0 ∷ 0 ∷ 0 ∷ 14 ∷ []) 12 ++ (8 ∷ n ∷ [])
 four : List ℕ
 four = big ++ (typed 0 ++ (typed 6 ++ (typed 0 ++ frame Big (0 ∷ 0 ∷ 0 ∷ 13 ∷ []) 13)))
 
-valued : CountResult → ℕ → ℕ → ℕ → ℕ → Bool
+valued : Result Tally Halt → ℕ → ℕ → ℕ → ℕ → Bool
 valued a r k g s = let t = frames_in a in eqb (refusal_of a) r && (eqb t.kept k && (eqb t.given g && eqb t.stop s))
 
 holds : Row → Bool

@@ -33,8 +33,8 @@ pub record Fits (o : Order) (s : List ℕ) (n : ℕ) : Type 0 where
 
 pub not_whole : {A : Type 0} {n : ℕ} {f : Front} → Stops f → f ≡ Whole n → A
 not_whole {f = Whole m} h e = absurd h
-not_whole {f = Past} h e = let z : ◌≡◌ {A = ℕ} 0 1 = cc in absurd (omega arith)
-not_whole {f = Over} h e = let z : ◌≡◌ {A = ℕ} 0 1 = cc in absurd (omega arith)
+not_whole {f = Past} h e = absurd cc
+not_whole {f = Over} h e = absurd cc
 
 pub front_fits : (o : Order) (s : List ℕ) (n : ℕ) → front o s ≡ Whole n → Fits o s n
 unfolding front

@@ -1,4 +1,6 @@
 -- A file read in windows, cut anywhere, is the file read at once.
+use Rattle.capture.specs.Counting.{halt}
+use Rattle.std.specs.Prelude.{Ok, Err}
 use Prim.Native.Nat.{ℕ, ◌+◌, ◌-◌, ◌≤◌, ◌<◌}
 use mathlib.Core.Path.{◌≡◌, refl, sym, ap, ◌∙◌}
 use mathlib.Core.List.{List, [], ◌∷◌, ◌++◌, append_assoc, append-nil}
@@ -12,13 +14,12 @@ use lib.Dec.{ltb}
 use native.Mathlib.Nat.{zero-add}
 use Rattle.error.specs.declared.Refusal.{Refusal}
 use Rattle.error.specs.declared.Refusal.TheVariants.{NoCapture, CutFrame}
-use Rattle.error.specs.Answer.{Out, refused, done}
+use Rattle.error.specs.Answer.{Out}
 use Rattle.ast.specs.declared.LinkType.{LinkType}
 use Rattle.capture.specs.declared.Order.{Order}
 use Rattle.capture.specs.declared.Front.{Front}
 use Rattle.capture.specs.declared.Front.TheVariants.{Whole, Past, Over}
 use Rattle.capture.specs.declared.Tally.{Tally}
-use Rattle.capture.specs.declared.CountResult.TheVariants.{Count, Refused}
 use Rattle.capture.specs.declared.Stage.{Stage}
 use Rattle.capture.specs.declared.Stage.TheVariants.{Header, Within, Turned}
 use Rattle.capture.specs.declared.Step.{Step}
@@ -99,11 +100,11 @@ module _ (P : List ℕ) (link : LinkType) where
       long : 24 ≤ length (w ++ on)
       long = omega (arith, length-append w on)
 
-      step_refused : (r : Refusal) → opened link w ≡ refused r → Appends Header w on
+      step_refused : (r : Refusal) → opened link w ≡ Err r → Appends Header w on
       unfolding step
       step_refused r e = rw (le-ltb (length w) 24 h, le-ltb (length (w ++ on)) 24 long, opened_prefix w on h link, e)
 
-      step_opened : (o : Order) → opened link w ≡ done o → Appends Header w on
+      step_opened : (o : Order) → opened link w ≡ Ok o → Appends Header w on
       unfolding step
       step_opened o e =
           let v = window P o (drop 24 w) in
@@ -112,8 +113,8 @@ module _ (P : List ℕ) (link : LinkType) where
           (ap (onto file_header) (step_within o (drop 24 w) on) ∙ rw (sum_assoc file_header v.tally (step P link v.stage (drop v.tally.stop (drop 24 w) ++ on)).tally))
 
       by_opened : (x : Out Order) → opened link w ≡ x → Appends Header w on
-      by_opened (refused r) e = step_refused r e
-      by_opened (done o) e = step_opened o e
+      by_opened (Err r) e = step_refused r e
+      by_opened (Ok o) e = step_opened o e
 
     by_length : (t : Bool) → ltb (length w) 24 ≡ t → Appends Header w on
     by_length true e = step_short (ltb-true (length w) 24 e)
@@ -136,8 +137,8 @@ module _ (P : List ℕ) (link : LinkType) where
     where
       go : (t : Bool) → ltb (length w) 24 ≡ t → (x : Out Order) → opened link w ≡ x → (cond t (stay Header) (begin P w x)).tally.stop ≤ length w
       go true e x p = omega arith
-      go false e (refused r) p = omega arith
-      go false e (done o) p = omega (arith, ltb-false (length w) 24 e, window_few P o (drop 24 w), length-drop 24 w)
+      go false e (Err r) p = omega arith
+      go false e (Ok o) p = omega (arith, ltb-false (length w) 24 e, window_few P o (drop 24 w), length-drop 24 w)
   step_few (Within o) w = window_few P o w
   step_few (Turned r) w = omega arith
 
@@ -171,7 +172,7 @@ module _ (P : List ℕ) (link : LinkType) where
     abbrev at_end : Step → ℕ
     at_end v = length s - v.tally.stop
 
-    pub no_header : length s < 24 → opened link s ≡ refused NoCapture
+    pub no_header : length s < 24 → opened link s ≡ Err NoCapture
     unfolding opened order_of
     no_header h = rw (lt-ltb (length s) 24 h)
 
@@ -191,7 +192,7 @@ module _ (P : List ℕ) (link : LinkType) where
 
       -- 14 exactly where reading stops before the end
       by_front : (f : Front) → front o (drop (frames_of o s).stop s) ≡ f → (b : Bool) → ltb (frames_of o s).stop (length s) ≡ b
-          → finish (awaits o f) t (length s - (frames_of o s).stop) ≡ cond b (Refused CutFrame t) (Count t)
+          → finish (awaits o f) t (length s - (frames_of o s).stop) ≡ cond b (Err (halt CutFrame t)) (Ok t)
       by_front Over e b p =
           let n = over_number o (drop (frames_of o s).stop s) e in
           rw (sym p ∙ lt-ltb (frames_of o s).stop (length s) (omega (arith, n.0, length-drop (frames_of o s).stop s)))
@@ -199,7 +200,7 @@ module _ (P : List ℕ) (link : LinkType) where
       by_front Past e false p = rw (eq-eqb (length s - (frames_of o s).stop) 0 (omega (arith, ltb-false (frames_of o s).stop (length s) p)))
       by_front (Whole n) e b p = absurd (rw e at (gives o s 24 h).none)
 
-      finish_opened : opened link s ≡ done o
+      finish_opened : opened link s ≡ Ok o
           → finish (step P link Header s).stage (step P link Header s).tally (at_end (step P link Header s)) ≡ ended P s (frames_of o s)
       unfolding step window
       finish_opened e =
@@ -209,8 +210,8 @@ module _ (P : List ℕ) (link : LinkType) where
     by_header : 24 ≤ length s → (x : Out Order) → opened link s ≡ x
         → finish (step P link Header s).stage (step P link Header s).tally (at_end (step P link Header s)) ≡ over P s x
     unfolding step
-    by_header h (refused r) e = rw (le-ltb (length s) 24 h, e)
-    by_header h (done o) e = finish_opened h o e
+    by_header h (Err r) e = rw (le-ltb (length s) 24 h, e)
+    by_header h (Ok o) e = finish_opened h o e
 
     by_size : (b : Bool) → ltb (length s) 24 ≡ b
         → finish (step P link Header s).stage (step P link Header s).tally (at_end (step P link Header s)) ≡ counted P link s
@@ -234,8 +235,8 @@ module _ (P : List ℕ) (link : LinkType) where
   moves Header w h = rw (le-ltb (length w) 24 (omega arith)) (go (opened link w))
     where
       go : (x : Out Order) → Moves (begin P w x)
-      go (refused r) = inr (r, refl)
-      go (done o) = inl (omega arith)
+      go (Err r) = inr (r, refl)
+      go (Ok o) = inl (omega arith)
   moves (Within o) w h = go (front o w) refl
     where
       go : (f : Front) → front o w ≡ f → Moves (window P o w)

@@ -1,4 +1,5 @@
 -- The fields of a file header that are not tested.
+use Rattle.std.specs.Prelude.{Ok, Err}
 use Prim.Native.Nat.{ℕ, ◌-◌, ◌≤◌}
 use mathlib.Core.Path.{◌≡◌, refl, sym, ap, ◌∙◌}
 use mathlib.Core.List.{List}
@@ -8,7 +9,7 @@ use borrow.Author.Tests.{ltb-true, ltb-false}
 use lib.ListN.{length, take, drop, length-take, length-drop, take-append-drop}
 use lib.Seq.{drop-drop}
 use lib.Dec.{ltb}
-use Rattle.error.specs.Answer.{Out, refused, done}
+use Rattle.error.specs.Answer.{Out}
 use Rattle.ast.specs.declared.LinkType.{LinkType}
 use Rattle.capture.specs.declared.Order.{Order}
 use Rattle.capture.specs.Capture.{number_at, opened, frames_of}
@@ -47,8 +48,8 @@ module _ (P : List ℕ) (link : LinkType) (s t : List ℕ) (m : take 4 t ≡ tak
     same_tally o = tally_from P o 24 t ∙ rw same_rest (sym (tally_from P o 24 s))
 
     same_over : (x : Out Order) → over P t x ≡ over P s x
-    same_over (refused r) = refl
-    same_over (done o) = rw (same_tally o, same_rest, same_length)
+    same_over (Err r) = refl
+    same_over (Ok o) = rw (same_tally o, same_rest, same_length)
 
   pub untested : counted P link t ≡ counted P link s
   unfolding counted

@@ -1,7 +1,8 @@
 -- T-01, "Reading a whole capture": classic pcap files, in the request's order. A capture is the list of its bytes.
+use Rattle.std.specs.Prelude.{Ok, Err}
 use Rattle.std.specs.Prelude.{ℕ, zero, suc, ◌+◌, List, [], ◌∷◌, Bool, cond, ◌||◌, length, take, drop, ltb, eqb}
 use Rattle.error.specs.declared.Refusal.TheVariants.{NoCapture, OtherLink, CutFrame}
-use Rattle.error.specs.Answer.{Out, refused, done, ◌>>=◌}
+use Rattle.error.specs.Answer.{Out, ◌>>=◌}
 use Rattle.bpf.specs.Bytes.{be, le_at}
 use Rattle.ast.specs.declared.LinkType.{LinkType}
 use Rattle.ast.specs.declared.LinkType.TheVariants.{Ethernet, RawIp, LinuxSll}
@@ -24,8 +25,8 @@ is_mark n = eqb n 0xa1b2c3d4 || eqb n 0xa1b23c4d
 -- "Read the file header (24 bytes, mark a1b2c3d4 or a1b23c4d, either byte order)"; "12 "no capture" for a short header or other mark"
 unfoldable pub order_of : List ℕ → Out Order
 order_of s =
-    cond (ltb (length s) 24) (refused NoCapture)
-    (cond (is_mark (number_at Big 0 s)) (done Big) (cond (is_mark (number_at Little 0 s)) (done Little) (refused NoCapture)))
+    cond (ltb (length s) 24) (Err NoCapture)
+    (cond (is_mark (number_at Big 0 s)) (Ok Big) (cond (is_mark (number_at Little 0 s)) (Ok Little) (Err NoCapture)))
 
 -- "In the 32-bit link field 1, 101 and 113 are Ethernet, RawIp and LinuxSll; the other header fields aren't tested."
 abbrev pub field_of : LinkType → ℕ
@@ -35,7 +36,7 @@ field_of LinuxSll = 113
 
 -- "13 "other link" when the link isn't the tree's"
 unfoldable pub opened : LinkType → List ℕ → Out Order
-opened link s = order_of s >>= λ o. cond (eqb (number_at o 20 s) (field_of link)) (done o) (refused OtherLink)
+opened link s = order_of s >>= λ o. cond (eqb (number_at o 20 s) (field_of link)) (Ok o) (Err OtherLink)
 
 -- ---- the frames
 
@@ -90,9 +91,9 @@ frames_of o s = frames o 24 (drop 24 s)
 
 -- "14 "cut frame" at the first frame header or body that runs past the file or is over 65,535 bytes"
 abbrev pub size_of : Front → Out ℕ
-size_of (Whole n) = done n
-size_of Past = refused CutFrame
-size_of Over = refused CutFrame
+size_of (Whole n) = Ok n
+size_of Past = Err CutFrame
+size_of Over = Err CutFrame
 
 -- the captured length of the frame whose header stands at a place of a capture
 unfoldable pub frame_at : List ℕ → ℕ → Out ℕ

@@ -1,9 +1,9 @@
 -- What the frames of a capture are, said without reading them. `proofs/Whole.antt` shows that `frames` gives these and no others.
+use Rattle.std.specs.Prelude.{Ok, Err}
 use Rattle.std.specs.Prelude.{ℕ, ◌+◌, ◌-◌, ◌≤◌, ◌<◌, ◌≡◌, List, [], ◌∷◌, ◌++◌, ◌⊎◌, length, take, drop}
 use Rattle.capture.specs.declared.Order.{Order}
 use Rattle.error.specs.declared.Refusal.{Refusal}
 use Rattle.error.specs.declared.Refusal.TheVariants.{CutFrame}
-use Rattle.error.specs.Answer.{refused, done}
 use Rattle.capture.specs.Capture.{number_at, Piece, piece, part, Frames, stopped, given, frames, frame_at}
 
 -- the file header, read in an order: 24 bytes, of which the first four are one of the marks
@@ -49,5 +49,5 @@ pub record Read (o : Order) (s : List ℕ) (fs : Frames) : Type 0 where
 -- one frame at a time, of a capture s whose numbers are in an order: the frames from a place on are the one there and those from its end on,
 -- or none
 pub record Walked (o : Order) (s : List ℕ) (at : ℕ) : Type 0 where
-  pub next : (n : ℕ) → frame_at s at ≡ done n → frames o at (drop at s) ≡ given (piece (at + 16) n) (frames o (at + 16 + n) (drop (at + 16 + n) s))
-  pub last : (r : Refusal) → frame_at s at ≡ refused r → (r ≡ CutFrame) × (frames o at (drop at s) ≡ stopped at)
+  pub next : (n : ℕ) → frame_at s at ≡ Ok n → frames o at (drop at s) ≡ given (piece (at + 16) n) (frames o (at + 16 + n) (drop (at + 16 + n) s))
+  pub last : (r : Refusal) → frame_at s at ≡ Err r → (r ≡ CutFrame) × (frames o at (drop at s) ≡ stopped at)

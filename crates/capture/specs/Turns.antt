@@ -1,15 +1,17 @@
 -- Captures larger than memory: a file is read in windows. Each is the bytes not yet used and some more.
+use Rattle.std.specs.Prelude.{Result}
+use Rattle.capture.specs.declared.Halt.{Halt}
+use Rattle.capture.specs.Counting.{halt}
+use Rattle.std.specs.Prelude.{Ok, Err}
 use Rattle.std.specs.Prelude.{ℕ, ◌+◌, ◌≤◌, ◌≡◌, List, [], ◌∷◌, ◌++◌, cond, ◌⊎◌, length, drop, ltb, eqb}
 use Rattle.error.specs.declared.Refusal.{Refusal}
 use Rattle.error.specs.declared.Refusal.TheVariants.{NoCapture, CutFrame}
-use Rattle.error.specs.Answer.{Out, refused, done}
+use Rattle.error.specs.Answer.{Out}
 use Rattle.ast.specs.declared.LinkType.{LinkType}
 use Rattle.capture.specs.declared.Order.{Order}
 use Rattle.capture.specs.declared.Front.{Front}
 use Rattle.capture.specs.declared.Front.TheVariants.{Whole, Past, Over}
 use Rattle.capture.specs.declared.Tally.{Tally}
-use Rattle.capture.specs.declared.CountResult.{CountResult}
-use Rattle.capture.specs.declared.CountResult.TheVariants.{Count, Refused}
 use Rattle.capture.specs.declared.Stage.{Stage}
 use Rattle.capture.specs.declared.Stage.TheVariants.{Header, Within, Turned}
 use Rattle.capture.specs.declared.Step.{Step}
@@ -44,8 +46,8 @@ abbrev pub stay : Stage → Step
 stay g = record { stage = g; tally = none }
 
 abbrev pub begin : List ℕ → List ℕ → Out Order → Step
-begin P w (refused r) = stay (Turned r)
-begin P w (done o) = onto file_header (window P o (drop 24 w))
+begin P w (Err r) = stay (Turned r)
+begin P w (Ok o) = onto file_header (window P o (drop 24 w))
 
 -- the file header waits for its 24 bytes, then come 12 and 13, then the whole frames; after a refusal nothing more is used
 unfoldable pub step : List ℕ → LinkType → Stage → List ℕ → Step
@@ -77,12 +79,12 @@ abbrev pub unread : Reading
 unread = record { stage = Header; tally = none; rest = [] }
 
 -- at the end of the file, so many bytes not used: a header that did not come is 12, a rest that is no whole frame 14
-abbrev pub finish : Stage → Tally → ℕ → CountResult
-finish Header t left = Refused NoCapture t
-finish (Within o) t left = cond (eqb left 0) (Count t) (Refused CutFrame t)
-finish (Turned r) t left = Refused r t
+abbrev pub finish : Stage → Tally → ℕ → Result Tally Halt
+finish Header t left = Err (halt NoCapture t)
+finish (Within o) t left = cond (eqb left 0) (Ok t) (Err (halt CutFrame t))
+finish (Turned r) t left = Err (halt r t)
 
-abbrev pub finished : Reading → CountResult
+abbrev pub finished : Reading → Result Tally Halt
 finished r = finish r.stage r.tally (length r.rest)
 
 -- the bytes of the cuts

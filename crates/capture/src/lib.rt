@@ -6,11 +6,11 @@ ghost use Rattle.capture.specs.Capture.{number_at, is_mark, order_of, field_of, 
 ghost use Rattle.capture.specs.Counting as C;
 ghost use Rattle.capture.specs.Turns as T;
 ghost use Rattle.capture.specs.declared.Stage.TheVariants.{Header};
-ghost use Rattle.capture.specs.Promises.{opened_of, framed_of};
 
 use ast::LinkType;
+use bpf::{be_u32, le_u32};
 use error::Refusal;
-use vm::{RunResult, Verdict};
+use vm::{Outcome, Verdict};
 
 // The bytes of a file header and of a frame header.
 const FILE_HEADER: usize = 24;
@@ -29,52 +29,39 @@ const LONGEST: usize = 65535;
 const FETCHED: usize = 128;
 
 // The byte order of a file's numbers.
-#[derive(Clone, Copy)]
+#[derive(Clone, Copy, Debug, PartialEq, Eq)]
 pub enum Order {
     Big,
     Little,
 }
 
-// A file header that was read: the byte order, or a refusal.
-#[derive(Clone, Copy)]
-pub enum Opened {
-    In(Order),
-    Refused(Refusal),
-}
-
 // What stands at the front of some bytes: a whole frame of so many bytes behind its header, one that runs past them, or one that is
-// over 65,535 bytes.
-#[derive(Clone, Copy)]
+// over 65,535 bytes. A window awaits more of the second and turns the third down.
+#[derive(Clone, Copy, Debug, PartialEq, Eq)]
 pub enum Front {
     Whole(usize),
     Past,
     Over,
 }
 
-// A frame's captured length, or a refusal.
-#[derive(Clone, Copy)]
-pub enum FrameResult {
-    Size(usize),
-    Refused(Refusal),
-}
-
 // How many of the frames given are kept, how many are given, and the place where reading stopped.
-#[derive(Clone, Copy)]
+#[derive(Clone, Copy, Debug, PartialEq, Eq)]
 pub struct Tally {
     pub kept: u64,
     pub given: u64,
     pub stop: usize,
 }
 
-// The frames of a capture; with a refusal, those before it.
-#[derive(Clone, Copy)]
-pub enum CountResult {
-    Count(Tally),
-    Refused(Refusal, Tally),
+// A refusal, and the frames before it.
+#[derive(Clone, Copy, Debug, PartialEq, Eq)]
+pub struct Halt {
+    pub refusal: Refusal,
+    pub tally: Tally,
 }
 
 // How far a file is read: its header, its frames, or to a refusal.
-#[derive(Clone, Copy)]
+// It is kept between two windows, so that it is a value and no closure.
+#[derive(Clone, Copy, Debug, PartialEq, Eq)]
 pub enum Stage {
     Header,
     Within(Order),
@@ -82,56 +69,71 @@ pub enum Stage {
 }
 
 // One window of a file: how far the file is read then, and the window's frames.
-#[derive(Clone, Copy)]
+#[derive(Clone, Copy, Debug, PartialEq, Eq)]
 pub struct Step {
     pub stage: Stage,
     pub tally: Tally,
 }
 
-// ---- the file header
-
-fn wide(b: u8) -> u32
-    ensures { (result ≡ b) × (result < 256) }
-{
-    b as u32
+impl Tally {
+    // No frame, and nothing read.
+    pub const NONE: Tally = Tally {
+        kept: 0,
+        given: 0,
+        stop: 0,
+    };
 }
 
-// The number of four bytes, in the file's order.
-fn number(bytes: &[u8], order: Order, at: usize) -> u32
-    requires { at + 4 ≤ length bytes.now }
-    ensures { result ≡ number_at order at bytes.now }
-{
-    let a = wide(bytes[at]);
-    let b = wide(bytes[at + 1]);
-    let c = wide(bytes[at + 2]);
-    let d = wide(bytes[at + 3]);
-    match order {
-        Order::Big => ((a * 256 + b) * 256 + c) * 256 + d,
-        Order::Little => a + b * 256 + c * 65536 + d * 16777216,
+// A refusal before any frame.
+impl From<Refusal> for Halt {
+    ghost from_gives = { λ refusal h. h ≡ C.halt refusal C.none };
+
+    fn from(early: Refusal) -> Halt {
+        Halt {
+            refusal: early,
+            tally: Tally::NONE,
+        }
+    }
+}
+
+// ---- the file header
+
+impl Order {
+    // The number of four bytes.
+    fn number(self, bytes: &[u8], at: usize) -> u32
+        requires { at + 4 ≤ length bytes.now }
+        ensures { result ≡ number_at self at bytes.now }
+    {
+        match self {
+            Order::Big => be_u32(bytes, at),
+            Order::Little => le_u32(bytes, at),
+        }
     }
 }
 
 fn is_mark(n: u32) -> bool
     ensures { result ≡ is_mark n }
 {
-    n == 0xa1b2c3d4 || n == 0xa1b23c4d
+    matches!(n, 0xa1b2c3d4 | 0xa1b23c4d)
 }
 
 // Number 12, or the byte order.
-fn order_of(capture: &[u8]) -> Opened
-    ensures { result ≡ opened_of (order_of capture.now) }
+#[tactic(auto, unfolding(crate::specs::Capture::order_of))]
+fn order_of(capture: &[u8]) -> Result<Order, Refusal>
+    ensures { result ≡ order_of capture.now }
 {
     if capture.len() < FILE_HEADER {
-        Opened::Refused(Refusal::NoCapture)
-    } else if is_mark(number(capture, Order::Big, 0)) {
-        Opened::In(Order::Big)
-    } else if is_mark(number(capture, Order::Little, 0)) {
-        Opened::In(Order::Little)
+        Err(Refusal::NoCapture)
+    } else if is_mark(Order::Big.number(capture, 0)) {
+        Ok(Order::Big)
+    } else if is_mark(Order::Little.number(capture, 0)) {
+        Ok(Order::Little)
     } else {
-        Opened::Refused(Refusal::NoCapture)
+        Err(Refusal::NoCapture)
     }
 }
 
+// A function: both types of a `From` would be other crates'.
 fn field_of(link: LinkType) -> u32
     ensures { result ≡ field_of link }
 {
@@ -143,40 +145,40 @@ fn field_of(link: LinkType) -> u32
 }
 
 // Numbers 12 and 13, or the byte order.
-fn read_header(capture: &[u8], link: LinkType) -> Opened
-    ensures { result ≡ opened_of (opened link capture.now) }
+#[tactic(auto, using(crate::proofs::Coded::order_long), unfolding(crate::specs::Capture::opened))]
+fn read_header(bytes: &[u8], link: LinkType) -> Result<Order, Refusal>
+    ensures { result ≡ opened link bytes.now }
 {
-    match order_of(capture) {
-        Opened::Refused(r) => Opened::Refused(r),
-        Opened::In(order) => {
-            if number(capture, order, LINK) == field_of(link) {
-                Opened::In(order)
-            } else {
-                Opened::Refused(Refusal::OtherLink)
-            }
-        }
+    let order = order_of(bytes)?;
+    if order.number(bytes, LINK) == field_of(link) {
+        Ok(order)
+    } else {
+        Err(Refusal::OtherLink)
     }
 }
 
 // ---- the frames
 
-// What stands at a place.
-fn front_at(bytes: &[u8], order: Order, at: usize) -> Front
-    requires { at ≤ length bytes.now }
-    ensures { result ≡ front order (drop at bytes.now) }
-{
-    let left = bytes.len() - at;
-    if left < FRAME_HEADER {
-        return Front::Past;
+impl Order {
+    // What stands at a place.
+    #[tactic(auto, using(crate::proofs::Coded::front_head, crate::proofs::Coded::front_over, crate::proofs::Coded::front_body, crate::proofs::Coded::front_here))]
+    fn front(self, bytes: &[u8], at: usize) -> Front
+        requires { at ≤ length bytes.now }
+        ensures { result ≡ front self (drop at bytes.now) }
+    {
+        let left = bytes.len() - at;
+        if left < FRAME_HEADER {
+            return Front::Past;
+        }
+        let n = self.number(bytes, at + CAPTURED) as usize;
+        if LONGEST < n {
+            return Front::Over;
+        }
+        if left < FRAME_HEADER + n {
+            return Front::Past;
+        }
+        Front::Whole(n)
     }
-    let n = number(bytes, order, at + CAPTURED) as usize;
-    if LONGEST < n {
-        return Front::Over;
-    }
-    if left < FRAME_HEADER + n {
-        return Front::Past;
-    }
-    Front::Whole(n)
 }
 
 // The frame whose header stands at a place: the part of these bytes behind it, as long as it says.
@@ -184,55 +186,39 @@ pub fn frame<'a>(bytes: &'a [u8], order: Order, at: usize) -> &'a [u8]
     requires { at + 16 + number_at order (at + 8) bytes.now ≤ length bytes.now }
     ensures { result.now ≡ part bytes.now (piece (at + 16) (number_at order (at + 8) bytes.now)) }
 {
-    let n = number(bytes, order, at + CAPTURED) as usize;
+    let n = order.number(bytes, at + CAPTURED) as usize;
     let from = at + FRAME_HEADER;
-    let to = from + n;
-    &bytes[from..to]
+    &bytes[from..from + n]
 }
 
 // The captured length of the frame whose header stands at a place of a capture, or number 12 or 14.
-pub fn frame_at(capture: &[u8], at: usize) -> FrameResult
-    ensures { result ≡ framed_of (frame_at capture.now at) }
+#[tactic(auto, using(crate::proofs::Coded::front_head), unfolding(crate::specs::Capture::frame_at))]
+pub fn frame_at(capture: &[u8], at: usize) -> Result<usize, Refusal>
+    ensures { result ≡ frame_at capture.now at }
 {
-    match order_of(capture) {
-        Opened::Refused(r) => FrameResult::Refused(r),
-        Opened::In(order) => {
-            if capture.len() < at {
-                return FrameResult::Refused(Refusal::CutFrame);
-            }
-            match front_at(capture, order, at) {
-                Front::Whole(n) => FrameResult::Size(n),
-                Front::Past => FrameResult::Refused(Refusal::CutFrame),
-                Front::Over => FrameResult::Refused(Refusal::CutFrame),
-            }
-        }
+    let order = order_of(capture)?;
+    if capture.len() < at {
+        return Err(Refusal::CutFrame);
+    }
+    match order.front(capture, at) {
+        Front::Whole(n) => Ok(n),
+        Front::Past | Front::Over => Err(Refusal::CutFrame),
     }
 }
 
 // ---- the accepted frames
 
-fn is_accepted(verdict: Verdict) -> bool
-    ensures { result ≡ C.is_accepted verdict }
-{
-    match verdict {
-        Verdict::Accepted => true,
-        Verdict::Dropped => false,
-        Verdict::Short => false,
-        Verdict::Broken => false,
-    }
-}
-
 fn accepts(program: &[u8], frame: &[u8]) -> bool
     ensures { result ≡ C.keeps program.now frame.now }
 {
-    let result = machine::run(program, frame);
-    match result {
-        RunResult::Ran(outcome) => {
-            let verdict = outcome.verdict;
-            is_accepted(verdict)
-        }
-        RunResult::Refused(_) => false,
-    }
+    let run = machine::run(program, frame);
+    matches!(
+        run,
+        Ok(Outcome {
+            verdict: Verdict::Accepted,
+            ..
+        })
+    )
 }
 
 // Reads a byte of every 128 of a frame, so that the processor foresees what follows: where the next header stands is known from this
@@ -243,10 +229,8 @@ fn fetched(frame: &[u8]) -> bool
     ensures { result ≡ true }
 {
     let mut sum = 0u32;
-    let mut at = FETCHED;
-    while at < frame.len() {
-        sum += wide(frame[at]);
-        at += FETCHED;
+    for at in (FETCHED..frame.len()).step_by(FETCHED) {
+        sum += u32::from(frame[at]);
     }
     sum < 0x80000000
 }
@@ -260,34 +244,44 @@ fn keeps(program: &[u8], frame: &[u8]) -> bool
 
 // ---- a file in windows
 
-// A window of which so many bytes are used.
-fn reached(stage: Stage, kept: u64, given: u64, stop: usize) -> Step
-    ensures { result ≡ record { stage = stage; tally = record { kept = kept; given = given; stop = stop } } }
-{
-    Step {
-        stage,
-        tally: Tally { kept, given, stop },
+impl Stage {
+    // Nothing of the window is used.
+    fn stay(self) -> Step
+        ensures { result ≡ T.stay self }
+    {
+        Step {
+            stage: self,
+            tally: Tally::NONE,
+        }
     }
 }
 
 // The whole frames at the front of a window: each is run where it lies.
+// Program and bytes stay parameters: `take_window` is called with them.
 fn count_window(program: &[u8], order: Order, bytes: &[u8]) -> Step
     ensures { result ≡ T.window program.now order bytes.now }
 {
-    let mut kept = 0u64;
-    let mut given = 0u64;
-    let mut at = 0usize;
+    let mut tally = Tally::NONE;
+    // It ends at the window's last whole frame; the place is in the tally, which a frame moves by its own length.
     loop {
-        match front_at(bytes, order, at) {
+        match order.front(bytes, tally.stop) {
             Front::Whole(n) => {
-                if keeps(program, frame(bytes, order, at)) {
-                    kept += 1;
-                }
-                given += 1;
-                at += FRAME_HEADER + n;
+                tally.kept += u64::from(keeps(program, frame(bytes, order, tally.stop)));
+                tally.given += 1;
+                tally.stop += FRAME_HEADER + n;
             }
-            Front::Past => return reached(Stage::Within(order), kept, given, at),
-            Front::Over => return reached(Stage::Turned(Refusal::CutFrame), kept, given, at),
+            Front::Past => {
+                return Step {
+                    stage: Stage::Within(order),
+                    tally,
+                };
+            }
+            Front::Over => {
+                return Step {
+                    stage: Stage::Turned(Refusal::CutFrame),
+                    tally,
+                };
+            }
         }
     }
 }
@@ -297,60 +291,60 @@ fn first_window(program: &[u8], order: Order, bytes: &[u8]) -> Step
     requires { 24 ≤ length bytes.now }
     ensures { result ≡ T.onto T.file_header (T.window program.now order (drop 24 bytes.now)) }
 {
-    let w = count_window(program, order, &bytes[FILE_HEADER..]);
-    let stage = w.stage;
-    let tally = w.tally;
-    reached(stage, tally.kept, tally.given, FILE_HEADER + tally.stop)
+    let mut step = count_window(program, order, &bytes[FILE_HEADER..]);
+    step.tally.stop += FILE_HEADER;
+    step
 }
 
+#[tactic(auto, unfolding(crate::specs::Turns::step))]
 fn begin(program: &[u8], link: LinkType, bytes: &[u8]) -> Step
     ensures { result ≡ T.step program.now link Header bytes.now }
 {
     if bytes.len() < FILE_HEADER {
-        return reached(Stage::Header, 0, 0, 0);
+        return Stage::Header.stay();
     }
     match read_header(bytes, link) {
-        Opened::Refused(r) => reached(Stage::Turned(r), 0, 0, 0),
-        Opened::In(order) => first_window(program, order, bytes),
+        Ok(order) => first_window(program, order, bytes),
+        Err(refusal) => Stage::Turned(refusal).stay(),
     }
 }
 
 // One window: the bytes of a file that are not yet used, as far as they are there.
+#[tactic(auto, unfolding(crate::specs::Turns::step))]
 pub fn take_window(program: &[u8], link: LinkType, stage: Stage, bytes: &[u8]) -> Step
     ensures { result ≡ T.step program.now link stage bytes.now }
 {
     match stage {
         Stage::Header => begin(program, link, bytes),
         Stage::Within(order) => count_window(program, order, bytes),
-        Stage::Turned(r) => reached(Stage::Turned(r), 0, 0, 0),
+        Stage::Turned(_) => stage.stay(),
     }
 }
 
 // The answer at the end of a file that was read in windows, so many bytes of it not used.
-pub fn finish(stage: Stage, tally: Tally, left: usize) -> CountResult
+pub fn finish(stage: Stage, tally: Tally, left: usize) -> Result<Tally, Halt>
     ensures { result ≡ T.finish stage tally left }
 {
     match stage {
-        Stage::Header => CountResult::Refused(Refusal::NoCapture, tally),
-        Stage::Turned(r) => CountResult::Refused(r, tally),
-        Stage::Within(_) => {
-            if left == 0 {
-                CountResult::Count(tally)
-            } else {
-                CountResult::Refused(Refusal::CutFrame, tally)
-            }
-        }
+        Stage::Header => Err(Halt {
+            refusal: Refusal::NoCapture,
+            tally,
+        }),
+        Stage::Within(_) if left == 0 => Ok(tally),
+        Stage::Within(_) => Err(Halt {
+            refusal: Refusal::CutFrame,
+            tally,
+        }),
+        Stage::Turned(refusal) => Err(Halt { refusal, tally }),
     }
 }
 
 // ---- a whole file
 
 // A program of a link over each frame of a capture: the capture is one window.
-pub fn count(program: &[u8], link: LinkType, capture: &[u8]) -> CountResult
+pub fn count(program: &[u8], link: LinkType, capture: &[u8]) -> Result<Tally, Halt>
     ensures { result ≡ C.counted program.now link capture.now }
 {
-    let all = take_window(program, link, Stage::Header, capture);
-    let stage = all.stage;
-    let tally = all.tally;
+    let Step { stage, tally } = take_window(program, link, Stage::Header, capture);
     finish(stage, tally, capture.len() - tally.stop)
 }

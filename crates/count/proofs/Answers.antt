@@ -1,4 +1,9 @@
 -- The answer of a count, as the code comes to it.
+use Rattle.std.specs.Prelude.{Result}
+use Rattle.capture.specs.declared.Halt.{Halt}
+use Rattle.capture.specs.declared.Tally.{Tally}
+use Rattle.capture.specs.Counting.{halt}
+use Rattle.std.specs.Prelude.{Ok, Err}
 use Prim.Native.Nat.{ℕ, ◌*◌, ◌≤◌}
 use mathlib.Core.Path.{◌≡◌, refl}
 use mathlib.Core.List.{List}
@@ -8,21 +13,14 @@ use borrow.Author.Tests.{ltb-true, ltb-false}
 use lib.ListN.{length, take}
 use lib.Dec.{ltb}
 use Rattle.error.specs.declared.Refusal.{Refusal}
-use Rattle.error.specs.Answer.{Out, refused, done}
+use Rattle.error.specs.Answer.{Out}
 use Rattle.error.proofs.All.{either}
 use Rattle.bpf.specs.Bytes.{AreBytes}
 use Rattle.ast.specs.declared.LinkType.{LinkType}
 use Rattle.ast.specs.File.{header}
-use Rattle.reader.specs.declared.Checked.{Checked}
-use Rattle.reader.specs.declared.Checked.TheVariants as C
-use Rattle.reader.specs.Checking as R
-use Rattle.build.specs.declared.BuildResult.{BuildResult}
-use Rattle.build.specs.declared.BuildResult.TheVariants as B
 use Rattle.build.specs.Build.{build}
 use Rattle.build.proofs.Demands.{defined, kept, demands}
 use Rattle.capture.specs.declared.Order.{Order}
-use Rattle.capture.specs.declared.CountResult.{CountResult}
-use Rattle.capture.specs.declared.CountResult.TheVariants.{Refused}
 use Rattle.capture.specs.Capture.{opened, frames_of}
 use Rattle.capture.specs.Counting.{none, tally_of, ended, over, counted, frames_in}
 use Rattle.capture.proofs.Coded.{opened_long}
@@ -30,20 +28,11 @@ use Rattle.capture.proofs.Whole.{gives}
 use Rattle.capture.proofs.Joins.{tally_sound}
 use Rattle.count.specs.Count.{linked, after, count}
 
-pub never : {A : Type 0} {r : Refusal} {n : ℕ} {b : BuildResult} → b ≡ B.Count n → b ≡ B.Refused r → A
+pub never : {A : Type 0} {r : Refusal} {n : ℕ} {b : Out ℕ} → b ≡ Ok n → b ≡ Err r → A
 never e h = let z : ◌≡◌ {A = ℕ} 0 1 = cc in absurd (omega arith)
 
--- the link of a tree file, as the reader answers it
-pub link-in : (x : Out LinkType) {L : LinkType} {r : Checked} → r ≡ R.linked x → r ≡ C.Link L → x ≡ done L
-link-in (refused q) e h = let z : ◌≡◌ {A = ℕ} 0 1 = cc in absurd (omega arith)
-link-in (done p) e h = cc
-
-pub link-refused : (x : Out LinkType) {q : Refusal} {r : Checked} → r ≡ R.linked x → r ≡ C.Refused q → x ≡ refused q
-link-refused (refused p) e h = cc
-link-refused (done L) e h = let z : ◌≡◌ {A = ℕ} 0 1 = cc in absurd (omega arith)
-
 module _ (T : List ℕ) (lent : ℕ) where
-  pub fits : AreBytes T → (n : ℕ) → (build T lent).answer ≡ B.Count n → 8 * n ≤ lent
+  pub fits : AreBytes T → (n : ℕ) → (build T lent).answer ≡ Ok n → 8 * n ≤ lent
   fits z n e = go (ltb lent (8 * n)) refl
     where
       go : (b : Bool) → ltb lent (8 * n) ≡ b → 8 * n ≤ lent
@@ -51,11 +40,11 @@ module _ (T : List ℕ) (lent : ℕ) where
       go false t = ltb-false lent (8 * n) t
 
   module _ (s : List ℕ) where
-    pub count-own : (r : Refusal) → (build T lent).answer ≡ B.Refused r → (count T lent s).answer ≡ Refused r none
+    pub count-own : (r : Refusal) → (build T lent).answer ≡ Err r → (count T lent s).answer ≡ Err (halt r none)
     unfolding count
     count-own r e = rw e
 
-    pub count-linked : (n : ℕ) → (build T lent).answer ≡ B.Count n → (count T lent s).answer ≡ linked (take (8 * n) (build T lent).buffer) s (header T)
+    pub count-linked : (n : ℕ) → (build T lent).answer ≡ Ok n → (count T lent s).answer ≡ linked (take (8 * n) (build T lent).buffer) s (header T)
     unfolding count
     count-linked n e = rw e
 
@@ -65,7 +54,7 @@ module _ (T : List ℕ) (lent : ℕ) where
 
     -- ---- frames are few: each has a header of 16 bytes
 
-    abbrev Small : CountResult → Type 0
+    abbrev Small : Result Tally Halt → Type 0
     Small a = 16 * (frames_in a).kept ≤ length s
 
     ended-small : (P : List ℕ) (o : Order) → 24 ≤ length s → Small (ended P s (frames_of o s))
@@ -74,18 +63,18 @@ module _ (T : List ℕ) (lent : ℕ) where
         let k : 16 * (tally_of P s (frames_of o s)).kept ≤ length s = omega (arith, t.kept, t.given, (gives o s 24 h).last) in
         either Small (ltb (frames_of o s).stop (length s)) k k
 
-    over-small : (P : List ℕ) (x : Out Order) → ((o : Order) → x ≡ done o → 24 ≤ length s) → Small (over P s x)
-    over-small P (refused r) h = omega arith
-    over-small P (done o) h = ended-small P o (h o refl)
+    over-small : (P : List ℕ) (x : Out Order) → ((o : Order) → x ≡ Ok o → 24 ≤ length s) → Small (over P s x)
+    over-small P (Err r) h = omega arith
+    over-small P (Ok o) h = ended-small P o (h o refl)
 
     linked-small : (P : List ℕ) (x : Out LinkType) → Small (linked P s x)
     unfolding counted
-    linked-small P (refused r) = omega arith
-    linked-small P (done L) = over-small P (opened L s) (λ o e. opened_long L s o e)
+    linked-small P (Err r) = omega arith
+    linked-small P (Ok L) = over-small P (opened L s) (λ o e. opened_long L s o e)
 
-    after_small : (b : BuildResult) → Small (after T s (build T lent).buffer b)
-    after_small (B.Refused r) = omega arith
-    after_small (B.Count n) = linked-small (take (8 * n) (build T lent).buffer) (header T)
+    after_small : (b : Out ℕ) → Small (after T s (build T lent).buffer b)
+    after_small (Err r) = omega arith
+    after_small (Ok n) = linked-small (take (8 * n) (build T lent).buffer) (header T)
 
     pub count_small : Small (count T lent s).answer
     unfolding count

@@ -1,4 +1,8 @@
 -- What T-01 promises of a count holds of every tree file, buffer and capture.
+use Rattle.capture.specs.Counting.{halt}
+use Rattle.std.specs.Prelude.{Ok, Err}
+use Rattle.error.specs.Answer.{Out}
+use Rattle.vm.specs.declared.Outcome.{Outcome}
 use Prim.Native.Nat.{ℕ, ◌+◌, ◌≤◌, ◌<◌}
 use mathlib.Core.Path.{◌≡◌, refl, sym, ap, ◌∙◌}
 use mathlib.Core.List.{List, [], ◌∷◌}
@@ -10,23 +14,17 @@ use lib.ListN.{length, take, drop, get_or, length-take, length-drop, get_or-eq_d
 use lib.Seq.{get_or-drop, get_or-take, take-length}
 use lib.Dec.{ltb}
 use Rattle.error.specs.declared.Refusal.TheVariants.{CutFrame}
-use Rattle.error.specs.Answer.{done}
 use Rattle.bpf.specs.Bytes.{AreBytes}
 use Rattle.vm.specs.declared.Verdict.{Verdict}
 use Rattle.vm.specs.declared.Verdict.TheVariants.{Accepted, Dropped, Short, Broken}
-use Rattle.vm.specs.declared.RunResult.{RunResult}
-use Rattle.vm.specs.declared.RunResult.TheVariants as R
 use Rattle.vm.specs.Machine.{run}
 use Rattle.ast.specs.declared.LinkType.{LinkType}
 use Rattle.ast.specs.File.{header}
-use Rattle.direct.specs.declared.DirectResult.{DirectResult}
-use Rattle.direct.specs.declared.DirectResult.TheVariants as D
 use Rattle.direct.specs.Reading.{network_start}
 use Rattle.build.specs.Demands.{Answers, program_of, Frame, HasVerdict}
 use Rattle.build.proofs.Demands as Base
 use Rattle.build.proofs.Demands.{demands}
 use Rattle.capture.specs.declared.Order.{Order}
-use Rattle.capture.specs.declared.CountResult.TheVariants.{Count, Refused}
 use Rattle.capture.specs.Capture.{number_at, field_of, Piece, part, Frames, frames_of}
 use Rattle.capture.specs.Counting.{is_accepted, accepted, passing, tally_of, ended, counted, refusal_of}
 use Rattle.capture.specs.Reads.{Marked, Chain}
@@ -46,13 +44,13 @@ is_accepted_lem Dropped = (λ e. let z : ◌≡◌ {A = ℕ} 0 1 = cc in absurd 
 is_accepted_lem Short = (λ e. let z : ◌≡◌ {A = ℕ} 0 1 = cc in absurd (omega arith), λ e. let z : ◌≡◌ {A = ℕ} 0 1 = cc in absurd (omega arith))
 is_accepted_lem Broken = (λ e. let z : ◌≡◌ {A = ℕ} 0 1 = cc in absurd (omega arith), λ e. let z : ◌≡◌ {A = ℕ} 0 1 = cc in absurd (omega arith))
 
-has_verdict : (r : RunResult) → (accepted r ≡ true) ↔ HasVerdict Accepted r
-has_verdict (R.Ran o) = is_accepted_lem o.verdict
-has_verdict (R.Refused r) = (λ e. let z : ◌≡◌ {A = ℕ} 0 1 = cc in absurd (omega arith), λ e. absurd e)
+has_verdict : (r : Out Outcome) → (accepted r ≡ true) ↔ HasVerdict Accepted r
+has_verdict (Ok o) = is_accepted_lem o.verdict
+has_verdict (Err r) = (λ e. let z : ◌≡◌ {A = ℕ} 0 1 = cc in absurd (omega arith), λ e. absurd e)
 
-is_true_lem : (d : DirectResult) → (is_true d ≡ true) ↔ (d ≡ D.Is true)
-is_true_lem (D.Is b) = (λ e. ap D.Is e, λ e. cc)
-is_true_lem (D.Refused r) = (λ e. let z : ◌≡◌ {A = ℕ} 0 1 = cc in absurd (omega arith), λ e. let z : ◌≡◌ {A = ℕ} 0 1 = cc in absurd (omega arith))
+is_true_lem : (d : Out Bool) → (is_true d ≡ true) ↔ (d ≡ Ok true)
+is_true_lem (Ok b) = (λ e. ap Ok e, λ e. cc)
+is_true_lem (Err r) = (λ e. let z : ◌≡◌ {A = ℕ} 0 1 = cc in absurd (omega arith), λ e. let z : ◌≡◌ {A = ℕ} 0 1 = cc in absurd (omega arith))
 
 -- two tests that hold together are one
 same_test : (a b : Bool) → ((a ≡ true) ↔ (b ≡ true)) → a ≡ b
@@ -98,7 +96,7 @@ all_pieces q f (p ∷ ps) = (f p, all_pieces q f ps)
 -- ---- of a tree file and a capture
 
 -- the answer for an accepted tree, of the definitions
-answered : (T : List ℕ) (c : Calls) → Kept T c → (lent n : ℕ) → Answers c.base lent n → (link : LinkType) → header T ≡ done link → (s : List ℕ)
+answered : (T : List ℕ) (c : Calls) → Kept T c → (lent n : ℕ) → Answers c.base lent n → (link : LinkType) → header T ≡ Ok link → (s : List ℕ)
     → c.answer lent s ≡ counted (program_of c.base lent n) link s
 answered T c k lent n a link e s =
     k.answers lent s
@@ -106,7 +104,7 @@ answered T c k lent n a link e s =
     ∙ rw (e, ← k.base.leaves lent)
 
 module _ (T : List ℕ) (zT : AreBytes T) (c : Calls) (k : Kept T c) (lent : ℕ) (s : List ℕ) (zS : AreBytes s) where
-  module _ (n : ℕ) (a : Answers c.base lent n) (link : LinkType) (e : header T ≡ done link) where
+  module _ (n : ℕ) (a : Answers c.base lent n) (link : LinkType) (e : header T ≡ Ok link) where
     abbrev P : List ℕ
     P = program_of c.base lent n
 
@@ -134,10 +132,10 @@ module _ (T : List ℕ) (zT : AreBytes T) (c : Calls) (k : Kept T c) (lent : ℕ
         λ i. record { kept = q i; given = length fs.pieces; stop = fs.stop }
 
     module _ (fs : Frames) (x : c.answer lent s ≡ ended P s fs) where
-      whole_is : fs.stop ≡ length s → c.answer lent s ≡ Count (tally_of P s fs)
+      whole_is : fs.stop ≡ length s → c.answer lent s ≡ Ok (tally_of P s fs)
       whole_is w = x ∙ rw (le-ltb fs.stop (length s) (omega arith))
 
-      cut_is : fs.stop < length s → c.answer lent s ≡ Refused CutFrame (tally_of P s fs)
+      cut_is : fs.stop < length s → c.answer lent s ≡ Err (halt CutFrame (tally_of P s fs))
       cut_is w = x ∙ rw (lt-ltb fs.stop (length s) w)
 
       to_end : ¬ (refusal_of (c.answer lent s) ≡ 14) → fs.stop ≤ length s → fs.stop ≡ length s

@@ -1,21 +1,21 @@
 -- T-01, in the customer's order and words, of what calls of `count` answer and leave. `proofs/Counts.antt` proves it of every tree file,
 -- buffer and capture from what the functions promise.
+use Rattle.std.specs.Prelude.{Result}
+use Rattle.capture.specs.declared.Halt.{Halt}
+use Rattle.capture.specs.Counting.{halt}
+use Rattle.std.specs.Prelude.{Ok, Err}
+use Rattle.error.specs.Answer.{Out}
 use Rattle.std.specs.Prelude.{ℕ, ◌+◌, ◌<◌, ◌≤◌, ◌≡◌, List, [], ◌∷◌, Bool, true, false, ◌&&◌, ◌↔◌, length, take, drop, replicate, leb}
 use Rattle.error.specs.declared.Refusal.{Refusal}
 use Rattle.error.specs.declared.Refusal.TheVariants.{NoCapture, OtherLink, CutFrame}
-use Rattle.error.specs.Answer.{done}
 use Rattle.vm.specs.declared.Verdict.TheVariants.{Accepted}
 use Rattle.ast.specs.declared.LinkType.{LinkType}
 use Rattle.ast.specs.File.{header}
-use Rattle.direct.specs.declared.DirectResult.{DirectResult}
-use Rattle.direct.specs.declared.DirectResult.TheVariants as D
 use Rattle.direct.specs.Reading.{network_start}
 use Rattle.build.specs.Demands as B
 use Rattle.build.specs.Demands.{Answers, Refuses, program_of, Gets}
 use Rattle.capture.specs.declared.Order.{Order}
 use Rattle.capture.specs.declared.Tally.{Tally}
-use Rattle.capture.specs.declared.CountResult.{CountResult}
-use Rattle.capture.specs.declared.CountResult.TheVariants.{Count, Refused}
 use Rattle.capture.specs.Capture.{number_at, field_of, Piece, part, Frames, frames_of}
 use Rattle.capture.specs.Counting.{accepted, passing, none, refusal_of}
 use Rattle.capture.specs.Reads.{Marked, Chain, Read, Walked}
@@ -27,7 +27,7 @@ use Rattle.count.specs.Count.{count}
 -- what `count` answers and leaves for one tree file, beside `build`, `run` and `direct_reading`
 pub record Calls : Type 0 where
   pub base : B.Calls
-  pub answer : ℕ → List ℕ → CountResult  -- of `count` with a buffer of so many bytes and a capture
+  pub answer : ℕ → List ℕ → Result Tally Halt  -- of `count` with a buffer of so many bytes and a capture
   pub buffer : ℕ → List ℕ → List ℕ  -- every byte of that buffer afterwards
 
 -- what the functions promise of them
@@ -43,9 +43,9 @@ abbrev pub keeps : Calls → List ℕ → List ℕ → Bool
 keeps c P F = accepted (c.base.ran P F)
 
 -- T, read directly on a frame, is true
-abbrev pub is_true : DirectResult → Bool
-is_true (D.Is b) = b
-is_true (D.Refused r) = false
+abbrev pub is_true : Out Bool → Bool
+is_true (Ok b) = b
+is_true (Err r) = false
 
 abbrev pub holds : Calls → List ℕ → Bool
 holds c F = is_true (c.base.read F)
@@ -71,9 +71,9 @@ pub record Counted (c : Calls) (lent : ℕ) (P : List ℕ) (link : LinkType) (o 
   pub read : Read o s (frames_of o s)
   pub walked : (at : ℕ) → Walked o s at
   -- "Frames before a bad one are still given, and the accepted ones counted";
-  pub whole : (frames_of o s).stop ≡ length s → c.answer lent s ≡ Count (tallied c P s (frames_of o s))
+  pub whole : (frames_of o s).stop ≡ length s → c.answer lent s ≡ Ok (tallied c P s (frames_of o s))
   -- "14 "cut frame" at the first frame header or body that runs past the file or is over 65,535 bytes"
-  pub cut : (frames_of o s).stop < length s → c.answer lent s ≡ Refused CutFrame (tallied c P s (frames_of o s))
+  pub cut : (frames_of o s).stop < length s → c.answer lent s ≡ Err (halt CutFrame (tallied c P s (frames_of o s)))
   -- the frames given are all of them exactly where there is no 14: only then do frames reach from the file header to the end
   pub all : ((ps : List Piece) × Chain o s 24 ps (length s)) ↔ (¬ (refusal_of (c.answer lent s) ≡ 14))
   -- a frame is counted exactly when the run over it gets accepted,
@@ -86,9 +86,9 @@ pub record Counted (c : Calls) (lent : ℕ) (P : List ℕ) (link : LinkType) (o 
 
 pub record Linked (c : Calls) (lent : ℕ) (P : List ℕ) (link : LinkType) (s : List ℕ) : Type 0 where
   -- "12 "no capture" for a short header or other mark"
-  pub unmarked : ((o : Order) → ¬ Marked o s) → c.answer lent s ≡ Refused NoCapture none
+  pub unmarked : ((o : Order) → ¬ Marked o s) → c.answer lent s ≡ Err (halt NoCapture none)
   -- "13 "other link" when the link isn't the tree's": in all 32 bits of the field
-  pub other : (o : Order) → Marked o s → ¬ (number_at o 20 s ≡ field_of link) → c.answer lent s ≡ Refused OtherLink none
+  pub other : (o : Order) → Marked o s → ¬ (number_at o 20 s ≡ field_of link) → c.answer lent s ≡ Err (halt OtherLink none)
   -- "the other header fields aren't tested": nothing of the file header between the mark, its first four bytes, and the link, its last, matters
   pub untested : (t : List ℕ) → take 4 t ≡ take 4 s → drop 20 t ≡ drop 20 s → c.answer lent t ≡ c.answer lent s
   -- then the frames
@@ -100,8 +100,8 @@ pub record Linked (c : Calls) (lent : ℕ) (P : List ℕ) (link : LinkType) (s :
 
 pub record Counts (T : List ℕ) (c : Calls) (lent : ℕ) (s : List ℕ) : Type 0 where
   -- "after the tree's own": its number, no frame, and the buffer zero
-  pub own : (r : Refusal) → Refuses c.base lent r → (c.answer lent s ≡ Refused r none) × (c.buffer lent s ≡ replicate lent 0)
+  pub own : (r : Refusal) → Refuses c.base lent r → (c.answer lent s ≡ Err (halt r none)) × (c.buffer lent s ≡ replicate lent 0)
   -- "12 to 14 leave the built program in its buffer": it is what `build` leaves, whatever the capture
   pub leaves : c.buffer lent s ≡ c.base.buffer lent
   -- an accepted tree has a link, and its program is run
-  pub linked : (n : ℕ) → Answers c.base lent n → (link : LinkType) × (header T ≡ done link) × Linked c lent (program_of c.base lent n) link s
+  pub linked : (n : ℕ) → Answers c.base lent n → (link : LinkType) × (header T ≡ Ok link) × Linked c lent (program_of c.base lent n) link s

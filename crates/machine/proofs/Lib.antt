@@ -1,8 +1,5 @@
 pub mod Counter
-pub mod Low
 pub mod Loads
-pub mod Tables
-pub mod Sums
 pub mod Onward
 pub mod Entry
 pub mod Ways

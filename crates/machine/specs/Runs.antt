@@ -1,17 +1,27 @@
 -- The run of a program's bytes from a counter on, as the loops of the code take it up. These are promises between the functions of the code;
 -- what `run` answers is said without them, in vm/specs/Machine.
-use Rattle.std.specs.Prelude.{◌≡◌, ℕ, ◌+◌, ◌/◌, ◌%◌, ◌<◌, ◌≤◌, cond, List, length, drop, replicate, nat_lt, slice_index, slice_set}
+use Rattle.std.specs.Prelude.{◌≡◌, ℕ, ◌+◌, ◌/◌, ◌%◌, ◌<◌, ◌≤◌, cond, List, Result, Ok, Err, length, drop, replicate, nat_lt, slice_index, slice_set, leb}
 use Rattle.bpf.specs.declared.Insn.{Insn}
-use Rattle.bpf.specs.Bytes.{le_at}
+use Rattle.bpf.specs.Bytes.{be, le_at}
 use Rattle.bpf.specs.Program.{insns_at}
+use Rattle.vm.specs.declared.Verdict.{Verdict}
 use Rattle.vm.specs.declared.Verdict.TheVariants.{Accepted, Dropped, Short, Broken}
 use Rattle.vm.specs.declared.Outcome.{Outcome}
 use Rattle.vm.specs.declared.Effect.{Effect}
 use Rattle.vm.specs.declared.Effect.TheVariants.{SetA, SetX, Store, Skip, Stop}
 use Rattle.machine.specs.declared.Way.{Way}
 use Rattle.machine.specs.declared.Way.TheVariants as way
-use Rattle.machine.specs.declared.Turn.{Turn}
+use Rattle.machine.specs.declared.Registers.{Registers}
 use Rattle.vm.specs.Machine.{exec, ended}
+
+-- so many bytes of a frame, as a load finds them
+abbrev pub loaded : ℕ → ℕ → List ℕ → Result ℕ Verdict
+loaded n at f = cond (leb (at + n) (length f)) (Ok (be n at f)) (Err Short)
+
+-- the effect of a value that is found, or of a verdict
+abbrev pub settled : (ℕ → Effect) → Result ℕ Verdict → Effect
+settled to (Ok v) = to v
+settled to (Err e) = Stop e
 
 -- the instructions of a program's bytes, and their number
 abbrev pub insns_of : List ℕ → List Insn
@@ -67,34 +77,27 @@ reach way.Dropped = 8
 reach way.Short = 8
 reach way.Other = 8
 
--- a run that the turn goes on with
-pub record Goes (s f : List ℕ) (at : ℕ) (before : ℕ → Outcome) (r : Turn) : Type 0 where
-  pub room : at + reach r.way ≤ length s
-  pub same : (t : ℕ) → before t ≡ went r.way s f at t r.a r.x
+-- a run that goes on by a way, with these registers
+pub record Goes (s f : List ℕ) (at : ℕ) (before : ℕ → Outcome) (w : Way) (g : Registers) : Type 0 where
+  pub room : at + reach w ≤ length s
+  pub same : (t : ℕ) → before t ≡ went w s f at t g.a g.x
 
 -- the run from the instruction at a place
-abbrev pub Turns : List ℕ → List ℕ → ℕ → ℕ → ℕ → Turn → Type 0
-Turns s f at a x r = Goes s f at (λ t. from s f (at / 8) t a x zeros) r
-
--- wherever the instruction's effect is this one
-abbrev pub Settles : Effect → ℕ → ℕ → Turn → Type 0
-Settles e a x r = (s f : List ℕ) (at : ℕ) → At s at → ((t : ℕ) → from s f (at / 8) t a x zeros ≡ goes s f e (at / 8) t a x zeros) → Turns s f at a x r
-
--- wherever an instruction with this low byte of a code and this number stands
-abbrev pub Anywhere : ℕ → ℕ → ℕ → ℕ → Turn → Type 0
-Anywhere low k a x r = (s f : List ℕ) (at : ℕ) → At s at → low < 256 → low ≡ slice_index s at → k ≡ le_at 4 (at + 4) s → Turns s f at a x r
+abbrev pub Turns : List ℕ → List ℕ → ℕ → Registers → Way → Registers → Type 0
+Turns s f at g w r = Goes s f at (λ t. from s f (at / 8) t g.a g.x zeros) w r
 
 -- the run that an effect of that instruction leaves
-abbrev pub Follows : List ℕ → List ℕ → ℕ → ℕ → ℕ → Effect → Turn → Type 0
-Follows s f at a x e r = Goes s f at (λ t. goes s f e (at / 8) t a x zeros) r
+abbrev pub Follows : List ℕ → List ℕ → ℕ → Registers → Effect → Way → Registers → Type 0
+Follows s f at g e w r = Goes s f at (λ t. goes s f e (at / 8) t g.a g.x zeros) w r
 
--- the same for an effect that does not depend on A, or on X
-abbrev pub AnyA : List ℕ → List ℕ → ℕ → ℕ → Effect → Turn → Type 0
-AnyA s f at x e r = (a : ℕ) → Follows s f at a x e r
+-- wherever the instruction's effect is this one
+abbrev pub Settles : Effect → Registers → Way → Registers → Type 0
+Settles e g w r = (s f : List ℕ) (at : ℕ) → At s at → ((t : ℕ) → from s f (at / 8) t g.a g.x zeros ≡ goes s f e (at / 8) t g.a g.x zeros) → Turns s f at g w r
 
-abbrev pub AnyX : List ℕ → ℕ → Effect → Turn → Type 0
-AnyX f a e r = (s : List ℕ) (at x : ℕ) → At s at → Follows s f at a x e r
+-- wherever an instruction with this code and this number stands
+abbrev pub Anywhere : ℕ → ℕ → Registers → Way → Registers → Type 0
+Anywhere code k g w r = (s f : List ℕ) (at : ℕ) → At s at → code ≡ le_at 2 at s → k ≡ le_at 4 (at + 4) s → Turns s f at g w r
 
 -- the run from the instruction after it, which is the second of two
 abbrev pub Next : List ℕ → ℕ → ℕ → Way → Type 0
-Next s at a w = (f : List ℕ) (x : ℕ) → Goes s f at (λ t. from s f (at / 8 + 1) (t + 1) a x zeros) (record { way = w; a = a; x = x })
+Next s at a w = (f : List ℕ) (x : ℕ) → Goes s f at (λ t. from s f (at / 8 + 1) (t + 1) a x zeros) w (record { a = a; x = x })

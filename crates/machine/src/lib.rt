@@ -3,18 +3,101 @@
 
 ghost use Rattle.std.specs.Prelude.{◌≡◌, ℕ, ◌+◌, ◌*◌, ◌/◌, ◌%◌, ◌^◌, ◌<◌, ◌≤◌, not, ◌||◌, length, replicate, if◌then◌else◌, ◌==◌, nat_eq, nat_lt, slice_index};
 ghost use Rattle.bpf.specs.Bytes.{be, le_at};
-ghost use Rattle.bpf.specs.Program.{insn};
 ghost use Rattle.vm.specs.Machine as M;
-ghost use Rattle.machine.specs.Runs.{from, At, Next, AnyA, AnyX, Turns, Settles, Anywhere};
-ghost use Rattle.machine.specs.declared.Way.TheVariants.{Taken, Missed, Dropped, Accepted};
-ghost use Rattle.vm.specs.declared.Effect.TheVariants.{SetA, SetX, Skip};
+ghost use Rattle.machine.specs.Runs.{loaded, settled, from, zeros, At, Next, Follows, Settles, Turns, Anywhere};
+ghost use Rattle.machine.specs.declared.Way.TheVariants.{Taken, Missed};
+ghost use Rattle.vm.specs.declared.Verdict.TheVariants.{Accepted, Dropped};
+ghost use Rattle.vm.specs.declared.Effect.TheVariants.{SetA, SetX, Skip, Stop};
 
+use bpf::{Insn, le_u16, le_u32};
 use error::Refusal;
-use std::num::{wrapping_add_u32, wrapping_sub_u32};
-use vm::{Effect, Outcome, RunResult, Verdict};
+use vm::{Effect, Outcome, Verdict};
+
+// The longest program and the longest frame, in bytes.
+const LONGEST_PROGRAM: usize = 32768;
+
+const LONGEST_FRAME: usize = 65535;
+
+// The fields of a code, with the numbers of Linux's filter header. The class is its lowest three bits.
+const LD: u16 = 0;
+
+const LDX: u16 = 1;
+
+const ST: u16 = 2;
+
+const STX: u16 = 3;
+
+const ALU: u16 = 4;
+
+const JMP: u16 = 5;
+
+const RET: u16 = 6;
+
+// The modes of a load.
+const IMM: u16 = 0;
+
+const ABS: u16 = 1;
+
+const IND: u16 = 2;
+
+const MEM: u16 = 3;
+
+const LEN: u16 = 4;
+
+const MSH: u16 = 5;
+
+// The sizes of a packet load.
+const W: u16 = 0;
+
+const H: u16 = 1;
+
+const B: u16 = 2;
+
+// The operations of ALU.
+const ADD: u16 = 0;
+
+const SUB: u16 = 1;
+
+const MUL: u16 = 2;
+
+const DIV: u16 = 3;
+
+const OR: u16 = 4;
+
+const AND: u16 = 5;
+
+const LSH: u16 = 6;
+
+const RSH: u16 = 7;
+
+const NEG: u16 = 8;
+
+const XOR: u16 = 10;
+
+// The operations of JMP.
+const JA: u16 = 0;
+
+const JEQ: u16 = 1;
+
+const JGT: u16 = 2;
+
+const JGE: u16 = 3;
+
+const JSET: u16 = 4;
+
+// The code of the test that may follow a load.
+const JEQ_K: u16 = 0x15;
+
+// The registers A and X. The first loop writes them in place: in an answer they would be packed into one word and taken apart again.
+#[derive(Clone, Copy)]
+pub struct Registers {
+    pub a: u32,
+    pub x: u32,
+}
 
 // How a run goes on: with the instruction that follows, by k, jt or jf, by the jt or jf of a test that follows a load; it ends;
-// or the code is one that the first loop does not know, and nothing is done yet.
+// or the code is one that the first loop does not know, and nothing is done yet. It carries no value, not even a verdict, so that the
+// compiler keeps a branch for each side of a test.
 #[derive(Clone, Copy)]
 pub enum Way {
     On,
@@ -29,624 +112,485 @@ pub enum Way {
     Other,
 }
 
-// A way, with the A and X that go along.
+// A program and a frame that are not refused.
 #[derive(Clone, Copy)]
-pub struct Turn {
-    pub way: Way,
-    pub a: u32,
-    pub x: u32,
+struct Job<'a> {
+    program: &'a [u8],
+    frame: &'a [u8],
+    ghost program_limit: { length program.now ≤ 32768 },
+    ghost program_whole: { length program.now % 8 ≡ 0 },
+    ghost frame_limit: { length frame.now ≤ 65535 },
 }
 
-fn wide(b: u8) -> u32
-    ensures { (result ≡ b) × (result < 256) }
-{
-    b as u32
+// What an instruction reads: the frame, the scratch words, A and X.
+#[derive(Clone, Copy)]
+struct State<'a> {
+    frame: &'a [u8],
+    scratch: &'a [u32; 16],
+    registers: Registers,
+    ghost frame_limit: { length frame.now ≤ 65535 },
 }
 
-// The big-endian number of two bytes.
-fn half(frame: &[u8], at: usize) -> u32
-    requires { at + 2 ≤ length frame.now }
-    ensures { result ≡ be 2 at frame.now }
+// The big-endian number of at most four bytes.
+fn number(bytes: &[u8]) -> u32
+    requires { length bytes.now ≤ 4 }
+    ensures { result ≡ be (length bytes.now) 0 bytes.now }
 {
-    wide(frame[at]) * 256 + wide(frame[at + 1])
+    let mut n = 0;
+    for &byte in bytes {
+        n = n * 256 + u32::from(byte);
+    }
+    n
 }
 
-// The big-endian number of four bytes.
-fn word(frame: &[u8], at: usize) -> u32
-    requires { at + 4 ≤ length frame.now }
-    ensures { result ≡ be 4 at frame.now }
+// A packet load of any width.
+fn load<const N: usize>(frame: &[u8], at: u32) -> Result<u32, Verdict>
+    requires { N ≤ 4 }
+    ensures { result ≡ loaded N at frame.now }
 {
-    ((wide(frame[at]) * 256 + wide(frame[at + 1])) * 256 + wide(frame[at + 2])) * 256
-        + wide(frame[at + 3])
-}
-
-// The little-endian number k of an instruction.
-fn number(program: &[u8], at: usize) -> u32
-    requires { at + 4 ≤ length program.now }
-    ensures { result ≡ le_at 4 at program.now }
-{
-    wide(program[at])
-        + wide(program[at + 1]) * 256
-        + wide(program[at + 2]) * 65536
-        + wide(program[at + 3]) * 16777216
-}
-
-// Packet loads of one, two and four bytes into A.
-fn load_byte(frame: &[u8], at: usize) -> Effect
-    ensures { result ≡ M.load 1 at frame.now SetA }
-{
-    if at < frame.len() {
-        Effect::SetA(wide(frame[at]))
+    let place = at as usize;
+    if place + N <= frame.len() {
+        Ok(number(&frame[place..place + N]))
     } else {
-        Effect::Stop(Verdict::Short)
+        Err(Verdict::Short)
     }
 }
 
-fn load_half(frame: &[u8], at: usize) -> Effect
-    requires { at < 2 ^ 32 }
-    ensures { result ≡ M.load 2 at frame.now SetA }
+// 4 times the low half of a byte.
+#[tactic(auto, unfolding(vm::specs::Machine::load))]
+fn header_length(frame: &[u8], at: u32) -> Result<u32, Verdict>
+    ensures { settled SetX result ≡ M.load 1 at frame.now (λ v. SetX (4 * (v % 16))) }
 {
-    if at + 2 <= frame.len() {
-        Effect::SetA(half(frame, at))
-    } else {
-        Effect::Stop(Verdict::Short)
-    }
+    let byte = load::<1>(frame, at)?;
+    Ok(4 * (byte % 16))
 }
 
-fn load_word(frame: &[u8], at: usize) -> Effect
-    requires { at < 2 ^ 32 }
-    ensures { result ≡ M.load 4 at frame.now SetA }
-{
-    if at + 4 <= frame.len() {
-        Effect::SetA(word(frame, at))
-    } else {
-        Effect::Stop(Verdict::Short)
-    }
-}
-
-// 4 times the low half of a byte, into X.
-fn load_header(frame: &[u8], at: usize) -> Effect
-    ensures { result ≡ M.load 1 at frame.now (λ v. SetX (4 * (v % 16))) }
-{
-    if at < frame.len() {
-        Effect::SetX(4 * (wide(frame[at]) % 16))
-    } else {
-        Effect::Stop(Verdict::Short)
-    }
-}
-
+// The program's own multiplication: it wraps.
 fn wrapping_mul(a: u32, b: u32) -> u32
     ensures { result ≡ M.wrap (a * b) }
 {
-    ((a as u64 * b as u64) % 4294967296) as u32
+    ((u64::from(a) * u64::from(b)) % 4294967296) as u32
+}
+
+// "X operand is bit 0x08".
+fn operand(code: u16, k: u32, x: u32) -> u32
+    ensures { result ≡ (if nat_eq (code / 8 % 2) 0 then k else x) }
+{
+    if code / 8 % 2 == 0 { k } else { x }
+}
+
+// The value that an operation gives A.
+#[tactic(auto, unfolding(vm::specs::Machine::alu))]
+fn alu(op: u16, a: u32, v: u32) -> Result<u32, Verdict>
+    ensures { settled SetA result ≡ M.alu op a v }
+{
+    match op {
+        ADD => Ok(a.wrapping_add(v)),
+        SUB => Ok(a.wrapping_sub(v)),
+        MUL => Ok(wrapping_mul(a, v)),
+        DIV if v == 0 => Err(Verdict::Broken),
+        DIV => Ok(a / v),
+        OR => Ok(a | v),
+        AND => Ok(a & v),
+        LSH => Ok(a << (v % 32)),
+        RSH => Ok(a >> (v % 32)),
+        NEG => Ok(a.wrapping_neg()),
+        XOR => Ok(a ^ v),
+        _ => Err(Verdict::Broken),
+    }
+}
+
+// A test skips by jt where it is taken, and by jf where it is not.
+fn branch(insn: Insn, taken: bool) -> Effect
+    ensures { result ≡ Skip (if taken then insn.jt else insn.jf) }
+{
+    Effect::Skip(u32::from(if taken { insn.jt } else { insn.jf }))
+}
+
+#[tactic(auto, unfolding(vm::specs::Machine::jmp))]
+fn jmp(op: u16, insn: Insn, a: u32, v: u32) -> Effect
+    ensures { result ≡ M.jmp op insn a v }
+{
+    match op {
+        JA => Effect::Skip(insn.k),
+        JEQ => branch(insn, a == v),
+        JGT => branch(insn, v < a),
+        JGE => branch(insn, v <= a),
+        JSET => branch(insn, a & v != 0),
+        _ => Effect::Stop(Verdict::Broken),
+    }
+}
+
+// A value other than 0 accepts.
+fn ret(v: u32) -> Verdict
+    ensures { Stop result ≡ M.ret v }
+{
+    if v == 0 {
+        Verdict::Dropped
+    } else {
+        Verdict::Accepted
+    }
 }
 
 // ---- any code
 
-// A packet load by its size.
-fn sized_load(frame: &[u8], at: u32, size: u32) -> Effect
-    ensures { result ≡ M.sized_load size at frame.now }
-{
-    let place = at as usize;
-    match size {
-        0 => load_word(frame, place),
-        1 => load_half(frame, place),
-        2 => load_byte(frame, place),
-        _ => Effect::Stop(Verdict::Broken),
-    }
-}
-
-// A scratch word into A, and into X.
-fn scratch_a(scratch: &[u32; 16], k: u32) -> Effect
-    ensures { result ≡ M.scratch k scratch.now SetA }
-{
-    let at = k as usize;
-    if at < 16 {
-        Effect::SetA(scratch[at])
-    } else {
-        Effect::Stop(Verdict::Broken)
-    }
-}
-
-fn scratch_x(scratch: &[u32; 16], k: u32) -> Effect
-    ensures { result ≡ M.scratch k scratch.now SetX }
-{
-    let at = k as usize;
-    if at < 16 {
-        Effect::SetX(scratch[at])
-    } else {
-        Effect::Stop(Verdict::Broken)
-    }
-}
-
-fn ld(frame: &[u8], scratch: &[u32; 16], mode: u32, size: u32, k: u32, x: u32) -> Effect
-    requires { length frame.now ≤ 65535 }
-    ensures { result ≡ M.ld frame.now scratch.now mode size k x }
-{
-    match mode {
-        0 => Effect::SetA(k),
-        1 => sized_load(frame, k, size),
-        2 => sized_load(frame, wrapping_add_u32(x, k), size),
-        3 => scratch_a(scratch, k),
-        4 => Effect::SetA(frame.len() as u32),
-        _ => Effect::Stop(Verdict::Broken),
-    }
-}
-
-fn ldx(frame: &[u8], scratch: &[u32; 16], mode: u32, size: u32, k: u32) -> Effect
-    requires { length frame.now ≤ 65535 }
-    ensures { result ≡ M.ldx frame.now scratch.now mode size k }
-{
-    match mode {
-        0 => Effect::SetX(k),
-        3 => scratch_x(scratch, k),
-        4 => Effect::SetX(frame.len() as u32),
-        5 => {
-            if size == 2 {
-                load_header(frame, k as usize)
-            } else {
-                Effect::Stop(Verdict::Broken)
-            }
-        }
-        _ => Effect::Stop(Verdict::Broken),
-    }
-}
-
-fn alu(op: u32, a: u32, v: u32) -> Effect
-    ensures { result ≡ M.alu op a v }
-{
-    match op {
-        0 => Effect::SetA(wrapping_add_u32(a, v)),
-        1 => Effect::SetA(wrapping_sub_u32(a, v)),
-        2 => Effect::SetA(wrapping_mul(a, v)),
-        3 => {
-            if v == 0 {
-                Effect::Stop(Verdict::Broken)
-            } else {
-                Effect::SetA(a / v)
-            }
-        }
-        4 => Effect::SetA(a | v),
-        5 => Effect::SetA(a & v),
-        6 => Effect::SetA(a << (v % 32)),
-        7 => Effect::SetA(a >> (v % 32)),
-        8 => Effect::SetA(wrapping_sub_u32(0, a)),
-        10 => Effect::SetA(a ^ v),
-        _ => Effect::Stop(Verdict::Broken),
-    }
-}
-
-fn branch(taken: bool, jt: u8, jf: u8) -> Effect
-    ensures { result ≡ Skip (if taken then jt else jf) }
-{
-    if taken {
-        Effect::Skip(wide(jt))
-    } else {
-        Effect::Skip(wide(jf))
-    }
-}
-
-fn jmp(op: u32, jt: u8, jf: u8, k: u32, a: u32, v: u32) -> Effect
-    ensures { result ≡ M.jmp op (insn 0 jt jf k) a v }
-{
-    match op {
-        0 => Effect::Skip(k),
-        1 => branch(a == v, jt, jf),
-        2 => branch(v < a, jt, jf),
-        3 => branch(v <= a, jt, jf),
-        4 => branch(a & v != 0, jt, jf),
-        _ => Effect::Stop(Verdict::Broken),
-    }
-}
-
-fn ret(v: u32) -> Effect
-    ensures { result ≡ M.ret v }
-{
-    if v == 0 {
-        Effect::Stop(Verdict::Dropped)
-    } else {
-        Effect::Stop(Verdict::Accepted)
-    }
-}
-
-// By a bit of a code.
-fn choose(bit: u32, zero: u32, one: u32) -> u32
-    ensures { result ≡ (if nat_eq bit 0 then zero else one) }
-{
-    if bit == 0 { zero } else { one }
-}
-
-fn misc(bit: u32, a: u32, x: u32) -> Effect
-    ensures { result ≡ (if nat_eq bit 0 then SetX a else SetA x) }
-{
-    if bit == 0 {
-        Effect::SetX(a)
-    } else {
-        Effect::SetA(x)
-    }
-}
-
-// What an instruction with this low byte in its code does, by its class.
-fn by_class(
-    frame: &[u8],
-    scratch: &[u32; 16],
-    low: u32,
-    jt: u8,
-    jf: u8,
-    k: u32,
-    a: u32,
-    x: u32,
-) -> Effect
-    requires { length frame.now ≤ 65535 }
-    ensures { result ≡ M.effect frame.now scratch.now (insn low jt jf k) a x }
-{
-    let class = low % 8;
-    let v = choose(low / 8 % 2, k, x);
-    match class {
-        0 => ld(frame, scratch, low / 32 % 8, low / 8 % 4, k, x),
-        1 => ldx(frame, scratch, low / 32 % 8, low / 8 % 4, k),
-        2 => Effect::Store(k, a),
-        3 => Effect::Store(k, x),
-        4 => alu(low / 16 % 16, a, v),
-        5 => jmp(low / 16 % 16, jt, jf, k, a, v),
-        6 => ret(choose(low / 16 % 2, k, a)),
-        _ => misc(low / 128 % 2, a, x),
-    }
-}
-
-// The codes that the second loop meets most, in one table; all others by their class.
-fn effect_of(
-    frame: &[u8],
-    scratch: &[u32; 16],
-    low: u32,
-    jt: u8,
-    jf: u8,
-    k: u32,
-    a: u32,
-    x: u32,
-) -> Effect
-    requires { length frame.now ≤ 65535 }
-    ensures { result ≡ M.effect frame.now scratch.now (insn low jt jf k) a x }
-{
-    match low {
-        0x02 => Effect::Store(k, a),
-        0x03 => Effect::Store(k, x),
-        0x07 => Effect::SetX(a),
-        0x60 => scratch_a(scratch, k),
-        0x61 => scratch_x(scratch, k),
-        0x87 => Effect::SetA(x),
-        _ => by_class(frame, scratch, low, jt, jf, k, a, x),
-    }
-}
-
-fn ended(verdict: Verdict, steps: u32) -> Outcome
-    ensures { result ≡ M.ended verdict steps }
-{
-    Outcome { verdict, steps }
-}
-
-// The run from a counter on, with any code; the scratch words are still zero.
-fn general(program: &[u8], frame: &[u8], start: usize, a0: u32, x0: u32, steps0: u32) -> Outcome
-    requires { (length program.now ≤ 32768) × (length frame.now ≤ 65535) × (steps0 ≤ start) × (start ≤ 4096) }
-    ensures { result ≡ from program.now frame.now start steps0 a0 x0 (replicate 16 0) }
-{
-    let n = program.len() / 8;
-    let mut a = a0;
-    let mut x = x0;
-    let mut scratch = [0u32; 16];
-    let mut pc = start;
-    let mut steps = steps0;
-    while pc < n {
-        let at = 8 * pc;
-        let low = wide(program[at]);
-        let k = number(program, at + 4);
-        let e = effect_of(
-            frame,
-            &scratch,
-            low,
-            program[at + 2],
-            program[at + 3],
-            k,
-            a,
-            x,
-        );
-        steps += 1;
-        pc += 1;
-        match e {
-            Effect::SetA(v) => a = v,
-            Effect::SetX(v) => x = v,
-            Effect::Store(i, v) => {
-                let slot = i as usize;
-                if slot < 16 {
-                    scratch[slot] = v;
-                } else {
-                    return ended(Verdict::Broken, steps);
-                }
-            }
-            Effect::Skip(d) => pc += d as usize,
-            Effect::Stop(v) => return ended(v, steps),
+impl<'a> State<'a> {
+    // A packet load by its size.
+    #[tactic(auto, unfolding(vm::specs::Machine::sized_load, vm::specs::Machine::load))]
+    fn sized_load(&self, at: u32, size: u16) -> Result<u32, Verdict>
+        ensures { settled SetA result ≡ M.sized_load size at self.now.frame.now }
+    {
+        match size {
+            W => load::<4>(self.frame, at),
+            H => load::<2>(self.frame, at),
+            B => load::<1>(self.frame, at),
+            _ => Err(Verdict::Broken),
         }
     }
-    ended(Verdict::Broken, steps)
+
+    // A scratch word.
+    #[tactic(auto, unfolding(vm::specs::Machine::scratch))]
+    fn word(&self, k: u32) -> Result<u32, Verdict>
+        ensures { (to : ℕ → Effect) → settled to result ≡ M.scratch k self.now.scratch.now to }
+    {
+        let scratch = self.scratch;
+        scratch.get(k as usize).copied().ok_or(Verdict::Broken)
+    }
+
+    // The value that LD gives A.
+    #[tactic(auto, unfolding(vm::specs::Machine::ld))]
+    fn ld(&self, mode: u16, size: u16, k: u32) -> Result<u32, Verdict>
+        ensures { settled SetA result ≡ M.ld self.now.frame.now self.now.scratch.now mode size k self.now.registers.x }
+    {
+        match mode {
+            IMM => Ok(k),
+            ABS => self.sized_load(k, size),
+            IND => self.sized_load(self.registers.x.wrapping_add(k), size),
+            MEM => self.word(k),
+            LEN => Ok(self.frame.len() as u32),
+            _ => Err(Verdict::Broken),
+        }
+    }
+
+    // The value that LDX gives X.
+    #[tactic(auto, unfolding(vm::specs::Machine::ldx))]
+    fn ldx(&self, mode: u16, size: u16, k: u32) -> Result<u32, Verdict>
+        ensures { settled SetX result ≡ M.ldx self.now.frame.now self.now.scratch.now mode size k }
+    {
+        match mode {
+            IMM => Ok(k),
+            MEM => self.word(k),
+            LEN => Ok(self.frame.len() as u32),
+            MSH if size == B => header_length(self.frame, k),
+            _ => Err(Verdict::Broken),
+        }
+    }
+
+    // What an instruction does, by its class.
+    #[tactic(auto, unfolding(vm::specs::Machine::effect))]
+    fn by_class(&self, insn: Insn) -> Effect
+        ensures { result ≡ M.effect self.now.frame.now self.now.scratch.now insn self.now.registers.a self.now.registers.x }
+    {
+        let Registers { a, x } = self.registers;
+        let Insn { code, k, .. } = insn;
+        let v = operand(code, k, x);
+        match code % 8 {
+            LD => self
+                .ld(code / 32 % 8, code / 8 % 4, k)
+                .map_or_else(Effect::Stop, Effect::SetA),
+            LDX => self
+                .ldx(code / 32 % 8, code / 8 % 4, k)
+                .map_or_else(Effect::Stop, Effect::SetX),
+            ST => Effect::Store(k, a),
+            STX => Effect::Store(k, x),
+            ALU => alu(code / 16 % 16, a, v).map_or_else(Effect::Stop, Effect::SetA),
+            JMP => jmp(code / 16 % 16, insn, a, v),
+            RET => Effect::Stop(ret(if code / 16 % 2 == 0 { k } else { a })),
+            _ if code / 128 % 2 == 0 => Effect::SetX(a),
+            _ => Effect::SetA(x),
+        }
+    }
+
+    // The codes that the second loop meets most, in one table; all others by their class, which jumps twice.
+    #[tactic(auto, unfolding(vm::specs::Machine::effect, vm::specs::Machine::ld, vm::specs::Machine::ldx))]
+    fn effect(&self, insn: Insn) -> Effect
+        ensures { result ≡ M.effect self.now.frame.now self.now.scratch.now insn self.now.registers.a self.now.registers.x }
+    {
+        match insn.code {
+            0x02 => Effect::Store(insn.k, self.registers.a),
+            0x03 => Effect::Store(insn.k, self.registers.x),
+            0x07 => Effect::SetX(self.registers.a),
+            0x60 => self.word(insn.k).map_or_else(Effect::Stop, Effect::SetA),
+            0x61 => self.word(insn.k).map_or_else(Effect::Stop, Effect::SetX),
+            0x87 => Effect::SetA(self.registers.x),
+            _ => self.by_class(insn),
+        }
+    }
 }
 
 // ---- the codes that the generator emits
 
-// After a load: a test of A that follows is made at once.
-fn next(program: &[u8], at: usize, a: u32) -> Way
-    requires { At program.now at }
-    ensures { Next program.now at a result }
+// A test, of which the instruction's jt and jf are not read yet.
+fn test(taken: bool) -> Way
+    ensures { result ≡ (if taken then Taken else Missed) }
 {
-    if at + 8 < program.len() {
-        if program[at + 8] == 0x15 {
-            if a == number(program, at + 12) {
-                Way::NextTaken
-            } else {
-                Way::NextMissed
+    if taken { Way::Taken } else { Way::Missed }
+}
+
+impl Registers {
+    // An effect on A or X, or a verdict. A store, a skip and what is broken are left for the general loop.
+    fn make(&mut self, effect: Effect) -> Way
+        ensures { Settles effect self.old result self.new }
+    {
+        match effect {
+            Effect::SetA(a) => {
+                self.a = a;
+                Way::On
             }
+            Effect::SetX(x) => {
+                self.x = x;
+                Way::On
+            }
+            Effect::Stop(Verdict::Accepted) => Way::Accepted,
+            Effect::Stop(Verdict::Dropped) => Way::Dropped,
+            Effect::Stop(Verdict::Short) => Way::Short,
+            _ => Way::Other,
+        }
+    }
+
+    // Arithmetic; what it breaks at is left for the general loop.
+    fn alu(&mut self, op: u16, v: u32) -> Way
+        ensures { Settles (M.alu op self.old.a v) self.old result self.new }
+    {
+        self.make(alu(op, self.a, v).map_or_else(Effect::Stop, Effect::SetA))
+    }
+
+    // Other codes that use no scratch word. A code is a row, whose jump goes straight to its operation: one rule over a code's fields
+    // jumps twice, and makes arithmetic 1.3 to 1.7 times as slow.
+    fn rest(&mut self, code: u16, k: u32) -> Way
+        ensures { Anywhere code k self.old result self.new }
+    {
+        match code {
+            0x04 => self.alu(ADD, k),
+            0x0c => self.alu(ADD, self.x),
+            0x14 => self.alu(SUB, k),
+            0x1c => self.alu(SUB, self.x),
+            0x24 => self.alu(MUL, k),
+            0x2c => self.alu(MUL, self.x),
+            0x34 => self.alu(DIV, k),
+            0x3c => self.alu(DIV, self.x),
+            0x44 => self.alu(OR, k),
+            0x4c => self.alu(OR, self.x),
+            0x5c => self.alu(AND, self.x),
+            0x64 => self.alu(LSH, k),
+            0x6c => self.alu(LSH, self.x),
+            0x74 => self.alu(RSH, k),
+            0x7c => self.alu(RSH, self.x),
+            0x84 => self.alu(NEG, k),
+            0x8c => self.alu(NEG, self.x),
+            0xa4 => self.alu(XOR, k),
+            0xac => self.alu(XOR, self.x),
+            0x07 => self.make(Effect::SetX(self.a)),
+            0x87 => self.make(Effect::SetA(self.x)),
+            0x16 => self.make(Effect::Stop(ret(self.a))),
+            _ => Way::Other,
+        }
+    }
+}
+
+impl<'a> Job<'a> {
+    // After a load: a test of A that follows is made at once.
+    // The place is a clause: it is another at each turn.
+    fn next(&self, at: usize, a: u32) -> Way
+        requires { At self.now.program.now at }
+        ensures { Next self.now.program.now at a result }
+    {
+        if self.program.len() <= at + 8 {
+            return Way::On;
+        }
+        if le_u16(self.program, at + 8) != JEQ_K {
+            return Way::On;
+        }
+        if a == le_u32(self.program, at + 12) {
+            Way::NextTaken
         } else {
-            Way::On
-        }
-    } else {
-        Way::On
-    }
-}
-
-// The packet loads into A, at a place of the frame.
-fn byte_then(program: &[u8], frame: &[u8], at: usize, place: usize, x: u32) -> Turn
-    requires { At program.now at }
-    ensures { AnyA program.now frame.now at x (M.load 1 place frame.now SetA) result }
-{
-    if place < frame.len() {
-        let a = wide(frame[place]);
-        Turn {
-            way: next(program, at, a),
-            a,
-            x,
-        }
-    } else {
-        Turn {
-            way: Way::Short,
-            a: 0,
-            x,
+            Way::NextMissed
         }
     }
-}
 
-fn half_then(program: &[u8], frame: &[u8], at: usize, place: usize, x: u32) -> Turn
-    requires { At program.now at × (place < 2 ^ 32) }
-    ensures { AnyA program.now frame.now at x (M.load 2 place frame.now SetA) result }
-{
-    if place + 2 <= frame.len() {
-        let a = half(frame, place);
-        Turn {
-            way: next(program, at, a),
-            a,
-            x,
-        }
-    } else {
-        Turn {
-            way: Way::Short,
-            a: 0,
-            x,
-        }
-    }
-}
-
-fn word_then(program: &[u8], frame: &[u8], at: usize, place: usize, x: u32) -> Turn
-    requires { At program.now at × (place < 2 ^ 32) }
-    ensures { AnyA program.now frame.now at x (M.load 4 place frame.now SetA) result }
-{
-    if place + 4 <= frame.len() {
-        let a = word(frame, place);
-        Turn {
-            way: next(program, at, a),
-            a,
-            x,
-        }
-    } else {
-        Turn {
-            way: Way::Short,
-            a: 0,
-            x,
-        }
-    }
-}
-
-// The header's length into X.
-fn header(frame: &[u8], place: usize, a: u32) -> Turn
-    ensures { AnyX frame.now a (M.load 1 place frame.now (λ v. SetX (4 * (v % 16)))) result }
-{
-    if place < frame.len() {
-        Turn {
-            way: Way::On,
-            a,
-            x: 4 * (wide(frame[place]) % 16),
-        }
-    } else {
-        Turn {
-            way: Way::Short,
-            a,
-            x: 0,
-        }
-    }
-}
-
-fn go(way: Way, a: u32, x: u32) -> Turn
-    ensures { result ≡ record { way = way; a = a; x = x } }
-{
-    Turn { way, a, x }
-}
-
-fn test(taken: bool, a: u32, x: u32) -> Turn
-    ensures { result ≡ record { way = (if taken then Taken else Missed); a = a; x = x } }
-{
-    if taken {
-        go(Way::Taken, a, x)
-    } else {
-        go(Way::Missed, a, x)
-    }
-}
-
-fn finish(k: u32, a: u32, x: u32) -> Turn
-    ensures { result ≡ record { way = (if nat_eq k 0 then Dropped else Accepted); a = a; x = x } }
-{
-    if k == 0 {
-        go(Way::Dropped, a, x)
-    } else {
-        go(Way::Accepted, a, x)
-    }
-}
-
-// ---- other codes that use no scratch word
-
-// Arithmetic; what it breaks at is left for the general loop.
-fn alu_turn(op: u32, a: u32, v: u32, x: u32) -> Turn
-    ensures { Settles (M.alu op a v) a x result }
-{
-    let e = alu(op, a, v);
-    match e {
-        Effect::SetA(sum) => go(Way::On, sum, x),
-        _ => go(Way::Other, a, x),
-    }
-}
-
-// By the code.
-fn rest_turn(low: u32, k: u32, a: u32, x: u32) -> Turn
-    ensures { Anywhere low k a x result }
-{
-    match low {
-        0x04 => alu_turn(0, a, k, x),
-        0x0c => alu_turn(0, a, x, x),
-        0x14 => alu_turn(1, a, k, x),
-        0x1c => alu_turn(1, a, x, x),
-        0x24 => alu_turn(2, a, k, x),
-        0x2c => alu_turn(2, a, x, x),
-        0x34 => alu_turn(3, a, k, x),
-        0x3c => alu_turn(3, a, x, x),
-        0x44 => alu_turn(4, a, k, x),
-        0x4c => alu_turn(4, a, x, x),
-        0x5c => alu_turn(5, a, x, x),
-        0x64 => alu_turn(6, a, k, x),
-        0x6c => alu_turn(6, a, x, x),
-        0x74 => alu_turn(7, a, k, x),
-        0x7c => alu_turn(7, a, x, x),
-        0x84 => alu_turn(8, a, k, x),
-        0x8c => alu_turn(8, a, x, x),
-        0xa4 => alu_turn(10, a, k, x),
-        0xac => alu_turn(10, a, x, x),
-        0x07 => go(Way::On, a, a),
-        0x87 => go(Way::On, x, x),
-        0x16 => finish(a, a, x),
-        _ => go(Way::Other, a, x),
-    }
-}
-
-// The instruction whose bytes start at a place, by its code.
-fn turn_of(program: &[u8], frame: &[u8], at: usize, a: u32, x: u32) -> Turn
-    requires { At program.now at × (length frame.now ≤ 65535) }
-    ensures { Turns program.now frame.now at a x result }
-{
-    let low = wide(program[at]);
-    let k = number(program, at + 4);
-    match low {
-        0x20 => word_then(program, frame, at, k as usize, x),
-        0x28 => half_then(program, frame, at, k as usize, x),
-        0x30 => byte_then(program, frame, at, k as usize, x),
-        0x48 => half_then(program, frame, at, wrapping_add_u32(x, k) as usize, x),
-        0xb1 => header(frame, k as usize, a),
-        0x80 => go(Way::On, frame.len() as u32, x),
-        0x01 => go(Way::On, a, k),
-        0x54 => go(Way::On, a & k, x),
-        0x05 => go(Way::Jump, a, x),
-        0x15 => test(a == k, a, x),
-        0x25 => test(k < a, a, x),
-        0x35 => test(k <= a, a, x),
-        0x45 => test(a & k != 0, a, x),
-        0x06 => finish(k, a, x),
-        _ => rest_turn(low, k, a, x),
-    }
-}
-
-// The bytes that a jump field skips.
-fn skipped(program: &[u8], at: usize) -> usize
-    requires { at < length program.now }
-    ensures { (result ≡ 8 * slice_index program.now at) × (result < 2048) }
-{
-    8 * (wide(program[at]) as usize)
-}
-
-// A whole run; the scratch words stay zero until a code comes that this loop does not know.
-fn quick(program: &[u8], frame: &[u8]) -> Outcome
-    requires { (length program.now ≤ 32768) × (length program.now % 8 ≡ 0) × (length frame.now ≤ 65535) }
-    ensures { result ≡ from program.now frame.now 0 0 0 0 (replicate 16 0) }
-{
-    let n = program.len();
-    let mut a = 0u32;
-    let mut x = 0u32;
-    let mut at = 0usize;
-    let mut steps = 0u32;
-    while at < n {
-        let t = turn_of(program, frame, at, a, x);
-        a = t.a;
-        x = t.x;
-        let way = t.way;
-        match way {
-            Way::On => {
-                steps += 1;
-                at += 8;
+    // A packet load into A, of any width.
+    fn load_then<const N: usize>(&self, at: usize, place: u32, registers: &mut Registers) -> Way
+        requires { At self.now.program.now at × (N ≤ 4) }
+        ensures { Follows self.now.program.now self.now.frame.now at registers.old (M.load N place self.now.frame.now SetA) result registers.new }
+    {
+        match load::<N>(self.frame, place) {
+            Ok(a) => {
+                registers.a = a;
+                self.next(at, a)
             }
-            Way::Jump => {
-                steps += 1;
-                at += 8 + 8 * (number(program, at + 4) as usize);
-            }
-            Way::Taken => {
-                steps += 1;
-                at += 8 + skipped(program, at + 2);
-            }
-            Way::Missed => {
-                steps += 1;
-                at += 8 + skipped(program, at + 3);
-            }
-            Way::NextTaken => {
-                steps += 2;
-                at += 16 + skipped(program, at + 10);
-            }
-            Way::NextMissed => {
-                steps += 2;
-                at += 16 + skipped(program, at + 11);
-            }
-            Way::Accepted => return ended(Verdict::Accepted, steps + 1),
-            Way::Dropped => return ended(Verdict::Dropped, steps + 1),
-            Way::Short => return ended(Verdict::Short, steps + 1),
-            Way::Other => return general(program, frame, at / 8, a, x, steps),
+            Err(_) => Way::Short,
         }
     }
-    ended(Verdict::Broken, steps)
+
+    // The instruction whose bytes start at a place, by its code.
+    // A code is any 16-bit number, and none is refused, so the codes are rows and no enum.
+    fn turn(&self, at: usize, registers: &mut Registers) -> Way
+        requires { At self.now.program.now at }
+        ensures { Turns self.now.program.now self.now.frame.now at registers.old result registers.new }
+    {
+        let code = le_u16(self.program, at);
+        let k = le_u32(self.program, at + 4);
+        match code {
+            0x20 => self.load_then::<4>(at, k, registers),
+            0x28 => self.load_then::<2>(at, k, registers),
+            0x30 => self.load_then::<1>(at, k, registers),
+            0x48 => self.load_then::<2>(at, registers.x.wrapping_add(k), registers),
+            0xb1 => registers.make(header_length(self.frame, k).map_or_else(
+                Effect::Stop,
+                Effect::SetX,
+            )),
+            0x80 => registers.make(Effect::SetA(self.frame.len() as u32)),
+            0x01 => registers.make(Effect::SetX(k)),
+            0x54 => registers.alu(AND, k),
+            0x05 => Way::Jump,
+            JEQ_K => test(registers.a == k),
+            0x25 => test(k < registers.a),
+            0x35 => test(k <= registers.a),
+            0x45 => test(registers.a & k != 0),
+            0x06 => registers.make(Effect::Stop(ret(k))),
+            _ => registers.rest(code, k),
+        }
+    }
+
+    // The bytes that a jump field skips.
+    fn skipped(&self, at: usize) -> usize
+        requires { at < length self.now.program.now }
+        ensures { (result ≡ 8 * slice_index self.now.program.now at) × (result < 2048) }
+    {
+        8 * usize::from(self.program[at])
+    }
+
+    // The run from a counter on, with any code; the scratch words are still zero.
+    fn general(&self, start: usize, registers: Registers, made: u32) -> Outcome
+        requires { (made ≤ start) × (start ≤ 4096) }
+        ensures { result ≡ from self.now.program.now self.now.frame.now start made registers.a registers.x zeros }
+    {
+        let count = self.program.len() / 8;
+        let mut registers = registers;
+        let mut scratch = [0u32; 16];
+        let mut pc = start;
+        let mut steps = made;
+        // The counter jumps, so that no iterator gives its values.
+        while pc < count {
+            let state = State {
+                frame: self.frame,
+                scratch: &scratch,
+                registers,
+            };
+            let effect = state.effect(bpf::insn_at(self.program, 8 * pc));
+            steps += 1;
+            pc += 1;
+            match effect {
+                Effect::SetA(v) => registers.a = v,
+                Effect::SetX(v) => registers.x = v,
+                Effect::Store(k, v) => {
+                    let slot = k as usize;
+                    if 16 <= slot {
+                        return Outcome {
+                            verdict: Verdict::Broken,
+                            steps,
+                        };
+                    }
+                    scratch[slot] = v;
+                }
+                Effect::Skip(n) => pc += n as usize,
+                Effect::Stop(verdict) => return Outcome { verdict, steps },
+            }
+        }
+        Outcome {
+            verdict: Verdict::Broken,
+            steps,
+        }
+    }
+
+    // A whole run; the scratch words stay zero until a code comes that this loop does not know.
+    fn quick(&self) -> Outcome
+        ensures { result ≡ from self.now.program.now self.now.frame.now 0 0 0 0 zeros }
+    {
+        let mut registers = Registers { a: 0, x: 0 };
+        let mut at = 0;
+        let mut steps = 0u32;
+        // The place jumps as the counter does.
+        while at < self.program.len() {
+            match self.turn(at, &mut registers) {
+                Way::On => {
+                    steps += 1;
+                    at += 8;
+                }
+                Way::Jump => {
+                    steps += 1;
+                    at += 8 + 8 * (le_u32(self.program, at + 4) as usize);
+                }
+                Way::Taken => {
+                    steps += 1;
+                    at += 8 + self.skipped(at + 2);
+                }
+                Way::Missed => {
+                    steps += 1;
+                    at += 8 + self.skipped(at + 3);
+                }
+                Way::NextTaken => {
+                    steps += 2;
+                    at += 16 + self.skipped(at + 10);
+                }
+                Way::NextMissed => {
+                    steps += 2;
+                    at += 16 + self.skipped(at + 11);
+                }
+                Way::Accepted => {
+                    return Outcome {
+                        verdict: Verdict::Accepted,
+                        steps: steps + 1,
+                    };
+                }
+                Way::Dropped => {
+                    return Outcome {
+                        verdict: Verdict::Dropped,
+                        steps: steps + 1,
+                    };
+                }
+                Way::Short => {
+                    return Outcome {
+                        verdict: Verdict::Short,
+                        steps: steps + 1,
+                    };
+                }
+                Way::Other => return self.general(at / 8, registers, steps),
+            }
+        }
+        Outcome {
+            verdict: Verdict::Broken,
+            steps,
+        }
+    }
 }
 
 // A program's length that is refused: 0, over 32,768, or not a multiple of 8.
 fn odd_program(size: usize) -> bool
     ensures { result ≡ (size == 0 || (nat_lt 32768 size || not (size % 8 == 0))) }
 {
-    if size == 0 {
-        true
-    } else if 32768 < size {
-        true
-    } else {
-        size % 8 != 0
-    }
+    size == 0 || LONGEST_PROGRAM < size || size % 8 != 0
 }
 
 // A run tests the program's length, then the frame's.
-pub fn run(program: &[u8], frame: &[u8]) -> RunResult
+pub fn run(program: &[u8], frame: &[u8]) -> Result<Outcome, Refusal>
     ensures { result ≡ M.run program.now frame.now }
 {
     if odd_program(program.len()) {
-        RunResult::Refused(Refusal::OddProgram)
-    } else if 65535 < frame.len() {
-        RunResult::Refused(Refusal::LongFrame)
+        Err(Refusal::OddProgram)
+    } else if LONGEST_FRAME < frame.len() {
+        Err(Refusal::LongFrame)
     } else {
-        RunResult::Ran(quick(program, frame))
+        Ok(Job { program, frame }.quick())
     }
 }
