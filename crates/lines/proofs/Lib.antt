@@ -1,4 +1,3 @@
-pub mod Others
 pub mod Moves
 pub mod Lines
 pub mod Simulates

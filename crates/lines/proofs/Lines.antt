@@ -1,26 +1,28 @@
 -- A line's words, one after the other, as the loop meets them.
-use Prim.Native.Nat.{ℕ, suc, ◌+◌, ◌≤◌, ◌<◌}
+use Rattle.std.specs.Prelude.{Option, None, Some, Ok, Err}
+use Prim.Native.Nat.{ℕ, suc, ◌+◌, ◌-◌, ◌≤◌, ◌<◌}
 use mathlib.Core.Path.{◌≡◌, refl, sym, ap, ap₂, ◌∙◌}
 use mathlib.Core.List.{List, [], ◌∷◌}
 use mathlib.Core.Bool.{Bool, true, false, cond, not, ◌&&◌}
-use mathlib.Core.Option.{Option, none, some}
 use native.Mathlib.Omega.{arith}
 use native.Mathlib.Nat.{add-zero}
-use lib.ListN.{length, get_or, drop}
+use lib.ListN.{length, get_or, drop, take, length-drop}
 use lib.Seq.{drop-drop}
 use lib.Dec.{eqb}
+use Rattle.std.proofs.lemmas.List.{take_all, length-take-le}
 use borrow.Author.Tests.{eq-eqb, ne_eqb}
-use Rattle.typing.specs.Words.{Word, name, over, side, host, port, opening, closing, negate, join, address, number, word_of, up_to, Placed, known, spotted, words_from}
-use Rattle.words.specs.declared.Token.{Token}
-use Rattle.words.specs.Tokens.{token_of, coded}
+use Rattle.error.specs.declared.Refusal.TheVariants.{UnknownWord, Unfinished}
+use Rattle.typing.specs.declared.Fault.{Fault}
+use Rattle.typing.specs.declared.Word.{Word}
+use Rattle.typing.specs.Words.{word_of, up_to, Placed, known, spotted, words_from}
+use Rattle.typing.specs.Typed.{fault}
 use Rattle.typing.proofs.Answers.{never}
-use Rattle.words.proofs.Scans.{drop_all, drop_here}
+use Rattle.words.proofs.Scans.{drop_all, drop_here, take_up_to}
+use Rattle.lines.specs.declared.Item.{Item}
+use Rattle.lines.specs.declared.Move.{Move}
 use Rattle.lines.specs.declared.Sum.{Sum}
-use Rattle.lines.specs.declared.Step.{Step}
-use Rattle.lines.specs.declared.Step.TheVariants.{Unread, Stopped, Done}
-use Rattle.lines.specs.declared.Scan.TheVariants.{Strange, Unfinished}
-use Rattle.lines.specs.Reads.{moved, stored, unread, ready, ready_items, move, refuses, step_of, step_items, Result, result, scans, begin, closed, rested, rest_items, Fits}
-use Rattle.lines.proofs.Moves.{steps_fit, stored_refuse, fits_more}
+use Rattle.lines.specs.Reads.{moved, moved_by, stored, stored_by, ready, ready_items, move, taken, Reading, reading, scans, begin, closed, rested, rest_items, Fits}
+use Rattle.lines.proofs.Moves.{steps_fit, fits_more}
 
 -- ---- the words from a place on
 
@@ -74,69 +76,27 @@ at_word s at end h e p = first ∙ ap (λ ws. spotted at (word_of (up_to 32 (dro
 
 -- ---- a word
 
-known_read : (w : Word) → unread (token_of w) ≡ false
-known_read (name n) = refl
-known_read (over t) = refl
-known_read (side s) = refl
-known_read host = refl
-known_read port = refl
-known_read opening = refl
-known_read closing = refl
-known_read negate = refl
-known_read (join j) = refl
-known_read (address a) = refl
-known_read (number n) = refl
+-- a word that a line may go on by ends here, by what `until` and `read_word` answer
+pub word_end : (s : List ℕ) (at n : ℕ) → n ≡ length (up_to 32 (take (length s - at) (drop at s))) → n ≡ length (up_to 32 (drop at s))
+word_end s at n e = rw (take_all (length s - at) (drop at s) (omega (arith, length-drop at s))) at e
 
-module _ (end k : ℕ) (s : Sum) (l : List ℕ) (ws : List Placed) where
-  by_step : (w : Word) (b : Bool) → refuses (move s (token_of w)) ≡ b
-      → scans end s l (known k w ∷ ws) ≡ elim b as (λ _. Rattle.lines.specs.Reads.Result) [
-        | true ↦ result (Unfinished k) (ready_items (token_of w) s l)
-        | false ↦ scans end (moved (ready (token_of w) s) (move s (token_of w))) (stored (ready (token_of w) s) (move s (token_of w)) (ready_items (token_of w) s l)) ws
-      ]
+pub word_here : (s : List ℕ) (at end : ℕ) → end ≡ at + length (up_to 32 (drop at s)) → take (end - at) (drop at s) ≡ up_to 32 (drop at s)
+word_here s at end e =
+    let n : end - at ≡ length (up_to 32 (drop at s)) = omega arith in
+    ap (λ (n : ℕ). take n (drop at s)) n ∙ take_up_to 32 (drop at s)
+
+module _ (end k : ℕ) (s : Sum) (l : List Item) (ws : List Placed) where
+  pub word_unread : (o : Option Word) → o ≡ None → scans end s l (spotted k o ∷ ws) ≡ reading (Err (fault UnknownWord k)) l
   unfolding scans
-  by_step w b e = rw (← e)
+  word_unread o e = rw e
 
-  step_known : (w : Word) (b : Bool) → refuses (move s (token_of w)) ≡ b → step_of s (token_of w) ≡ cond b Stopped (Done (moved (ready (token_of w) s) (move s (token_of w))))
-  step_known w b e = rw (known_read w, e)
-
-  items_known : (w : Word) → step_items s (token_of w) l ≡ stored (ready (token_of w) s) (move s (token_of w)) (ready_items (token_of w) s l)
-  items_known w = rw (known_read w)
-
-  pub word_unread : (o : Option Word) → step_of s (coded o) ≡ Unread → scans end s l (spotted k o ∷ ws) ≡ result (Strange k) (step_items s (coded o) l)
+  pub word_stopped : (w : Word) → move s w ≡ None → scans end s l (known k w ∷ ws) ≡ reading (Err (fault Unfinished k)) (ready_items w s l)
   unfolding scans
-  word_unread none e = refl
-  word_unread (some w) e = never (by (refuses (move s (token_of w))) refl)
-    where
-      by : (b : Bool) → refuses (move s (token_of w)) ≡ b → ◌≡◌ {A = ℕ} 0 1
-      by true h = let z = step_known w true h in cc
-      by false h = let z = step_known w false h in cc
+  word_stopped w e = rw (scans, e)
 
-  pub word_stopped : (o : Option Word) → step_of s (coded o) ≡ Stopped → scans end s l (spotted k o ∷ ws) ≡ result (Unfinished k) (step_items s (coded o) l)
-  word_stopped none e = never cc
-  word_stopped (some w) e = by (refuses (move s (token_of w))) refl
-    where
-      by : (b : Bool) → refuses (move s (token_of w)) ≡ b → scans end s l (known k w ∷ ws) ≡ result (Unfinished k) (step_items s (token_of w) l)
-      by true h = by_step w true h ∙ ap (result (Unfinished k)) (sym (items_known w ∙ stored_refuse (ready (token_of w) s) (move s (token_of w)) (ready_items (token_of w) s l) h))
-      by false h = never (let z = step_known w false h in cc)
-
-  pub word_done : (o : Option Word) (s' : Sum) → step_of s (coded o) ≡ Done s' → scans end s l (spotted k o ∷ ws) ≡ scans end s' (step_items s (coded o) l) ws
-  word_done none s' e = never cc
-  word_done (some w) s' e = by (refuses (move s (token_of w))) refl
-    where
-      by : (b : Bool) → refuses (move s (token_of w)) ≡ b → scans end s l (known k w ∷ ws) ≡ scans end s' (step_items s (token_of w) l) ws
-      by true h = never (let z = step_known w true h in cc)
-      by false h =
-          let z = step_known w false h in
-          let same : moved (ready (token_of w) s) (move s (token_of w)) ≡ s' = cc in
-          by_step w false h ∙ ap₂ (λ a b. scans end a b ws) same (sym (items_known w))
-
-pub done_fits : (s : Sum) (w : Token) (n : ℕ) (s' : Sum) → step_of s w ≡ Done s' → Fits s n → Fits s' (n + 1)
-done_fits s w n s' e f = by (unread w) (refuses (move s w)) e
-  where
-    by : (a b : Bool) → cond a Unread (cond b Stopped (Done (moved (ready w s) (move s w)))) ≡ Done s' → Fits s' (n + 1)
-    by true b h = never cc
-    by false true h = never cc
-    by false false h = let same : moved (ready w s) (move s w) ≡ s' = cc in rw same at (steps_fit w s n f)
+  pub word_done : (w : Word) (m : Move) → move s w ≡ Some m → scans end s l (known k w ∷ ws) ≡ scans end (moved (ready w s) m) (stored (ready w s) m (ready_items w s l)) ws
+  unfolding scans
+  word_done w m e = rw (scans, e)
 
 -- ---- the end of the line
 
@@ -146,51 +106,72 @@ at_end s at h = rw (drop_all s at h)
 
 -- ---- what the loop keeps
 
-pub record Goes (line : List ℕ) (s : Sum) (l : List ℕ) (at : ℕ) (whole : Result) : Type 0 where
+pub record Goes (line : List ℕ) (s : Sum) (l : List Item) (at : ℕ) (whole : Reading) : Type 0 where
   pub inside : at ≤ length line
   pub fit : Fits s at
   pub rest : scans (length line) s l (words_from false at (drop at line)) ≡ whole
 
-module _ {line l : List ℕ} {s : Sum} {at : ℕ} {whole : Result} (g : Goes line s l at whole) (here : at < length line) where
+module _ {line : List ℕ} {l : List Item} {s : Sum} {at : ℕ} {whole : Reading} (g : Goes line s l at whole) (here : at < length line) where
   pub past_space : get_or line at 0 ≡ 32 → Goes line s l (at + 1) whole
   past_space e = record { inside = omega arith; fit = fits_more s at (at + 1) g.fit (omega arith); rest = ap (scans (length line) s l) (sym (at_space line at here e)) ∙ g.rest }
 
-  module _ (e : get_or line at 0 ≡ 32 → ⊥) (end : ℕ) (ends : (end ≡ at + length (up_to 32 (drop at line))) × (end ≤ length line)) (w : Token) (is : w ≡ coded (word_of (up_to 32 (drop at line)))) where
-    split : scans (length line) s l (spotted at (word_of (up_to 32 (drop at line))) ∷ words_from false end (drop end line)) ≡ whole
-    split = ap (scans (length line) s l) (sym (at_word line at end here e ends.0)) ∙ g.rest
+  -- a word starts at the place, of so many bytes, and is read as o
+  module _ (e : get_or line at 0 ≡ 32 → ⊥) (n : ℕ) (ends : (n ≡ length (up_to 32 (take (length line - at) (drop at line)))) × (n ≤ length (take (length line - at) (drop at line))))
+      (o : Option Word) (is : o ≡ word_of (take (at + n - at) (drop at line))) where
+    bytes : n ≡ length (up_to 32 (drop at line))
+    bytes = word_end line at n ends.0
 
-    pub goes_unread : (r : Step) (j : List ℕ) → r ≡ Unread → (r ≡ step_of s w) × (j ≡ step_items s w l) → result (Strange at) j ≡ whole
-    goes_unread r j h k =
-        ap (result (Strange at)) (k.1 ∙ ap (λ x. step_items s x l) is)
-        ∙ (sym (word_unread (length line) at s l (words_from false end (drop end line)) (word_of (up_to 32 (drop at line))) (ap (step_of s) (sym is) ∙ (sym k.0 ∙ h))) ∙ split)
+    inside : at + n ≤ length line
+    inside = omega (arith, ends.1, length-take-le (length line - at) (drop at line), length-drop at line)
 
-    pub goes_stopped : (r : Step) (j : List ℕ) → r ≡ Stopped → (r ≡ step_of s w) × (j ≡ step_items s w l) → result (Unfinished at) j ≡ whole
-    goes_stopped r j h k =
-        ap (result (Unfinished at)) (k.1 ∙ ap (λ x. step_items s x l) is)
-        ∙ (sym (word_stopped (length line) at s l (words_from false end (drop end line)) (word_of (up_to 32 (drop at line))) (ap (step_of s) (sym is) ∙ (sym k.0 ∙ h))) ∙ split)
+    read : o ≡ word_of (up_to 32 (drop at line))
+    read = is ∙ ap word_of (word_here line at (at + n) (omega (arith, bytes)))
 
-    longer : at + 1 ≤ end
-    longer = omega (arith, ends.0, some_bytes)
+    split : scans (length line) s l (spotted at o ∷ words_from false (at + n) (drop (at + n) line)) ≡ whole
+    split = ap (λ x. scans (length line) s l (spotted at x ∷ words_from false (at + n) (drop (at + n) line))) read
+        ∙ (ap (scans (length line) s l) (sym (at_word line at (at + n) here e (omega (arith, bytes)))) ∙ g.rest)
+
+    pub goes_unread : o ≡ None → reading (Err (fault UnknownWord at)) l ≡ whole
+    goes_unread h = sym (word_unread (length line) at s l (words_from false (at + n) (drop (at + n) line)) o h) ∙ split
+
+    longer : at + 1 ≤ at + n
+    longer = omega (arith, bytes, some_bytes)
       where
         some_bytes : 1 ≤ length (up_to 32 (drop at line))
         some_bytes = rw (drop_here line at here, ne_eqb (get_or line at 0) 32 e) (omega arith)
 
-    pub goes_done : (r : Step) (j : List ℕ) (s' : Sum) → r ≡ Done s' → (r ≡ step_of s w) × (j ≡ step_items s w l) → Goes line s' j end whole
-    goes_done r j s' h k =
-        record {
-          inside = ends.1;
-          fit = fits_more s' (at + 1) end (done_fits s w at s' (sym k.0 ∙ h) g.fit) longer;
-          rest = ap (λ x. scans (length line) s' x (words_from false end (drop end line))) (k.1 ∙ ap (λ x. step_items s x l) is)
-              ∙ (sym (word_done (length line) at s l (words_from false end (drop end line)) (word_of (up_to 32 (drop at line))) s' (ap (step_of s) (sym is) ∙ (sym k.0 ∙ h))) ∙ split);
-        }
-
-    pub further : at < end
+    pub further : at < at + n
     further = omega (arith, longer)
 
-pub goes_end : {line l : List ℕ} {s : Sum} {at : ℕ} {whole : Result} → Goes line s l at whole → length line ≤ at
-    → result (closed (length line) (rested s)) (rest_items s.spot s l) ≡ whole
+    module _ (w : Word) (some : o ≡ Some w) where
+      known_split : scans (length line) s l (known at w ∷ words_from false (at + n) (drop (at + n) line)) ≡ whole
+      known_split = ap (λ x. scans (length line) s l (spotted at x ∷ words_from false (at + n) (drop (at + n) line))) (sym some) ∙ split
+
+      pub goes_stopped : (f : Fault) (j : List Item) → Err f ≡ taken (move s w) at → j ≡ stored_by (move s w) (ready w s) (ready_items w s l)
+          → reading (Err f) j ≡ whole
+      goes_stopped f j h k = by (move s w) refl h k
+        where
+          by : (m : Option Move) → move s w ≡ m → Err f ≡ taken m at → j ≡ stored_by m (ready w s) (ready_items w s l) → reading (Err f) j ≡ whole
+          by None q h k = (let z : f ≡ fault Unfinished at = cc in ap₂ (λ x y. reading (Err x) y) z k) ∙ (sym (word_stopped (length line) at s l (words_from false (at + n) (drop (at + n) line)) w q) ∙ known_split)
+          by (Some m) q h k = never cc
+
+      pub goes_done : (u : Unit {0}) (s' : Sum) (j : List Item) → Ok u ≡ taken (move s w) at → s' ≡ moved_by (move s w) (ready w s)
+          → j ≡ stored_by (move s w) (ready w s) (ready_items w s l) → Goes line s' j (at + n) whole
+      goes_done u s' j h p k = by (move s w) refl h p k
+        where
+          by : (m : Option Move) → move s w ≡ m → Ok u ≡ taken m at → s' ≡ moved_by m (ready w s) → j ≡ stored_by m (ready w s) (ready_items w s l) → Goes line s' j (at + n) whole
+          by None q h p k = never cc
+          by (Some m) q h p k =
+              rw (p, k) (record {
+                inside = inside;
+                fit = fits_more _ (at + 1) (at + n) (steps_fit w s m at g.fit) longer;
+                rest = sym (word_done (length line) at s l (words_from false (at + n) (drop (at + n) line)) w m q) ∙ known_split;
+              })
+
+pub goes_end : {line : List ℕ} {l : List Item} {s : Sum} {at : ℕ} {whole : Reading} → Goes line s l at whole → length line ≤ at
+    → reading (closed (length line) (rested s)) (rest_items s l) ≡ whole
 unfolding scans
 goes_end {line} {l} {s} {at} g h = ap (scans (length line) s l) (sym (at_end line at h)) ∙ g.rest
 
-pub goes_start : (line l : List ℕ) → Goes line begin l 0 (scans (length line) begin l (words_from false 0 line))
+pub goes_start : (line : List ℕ) (l : List Item) → Goes line begin l 0 (scans (length line) begin l (words_from false 0 line))
 goes_start line l = record { inside = omega arith; fit = record { counted = omega arith; opened = omega arith; deep = omega arith }; rest = refl }

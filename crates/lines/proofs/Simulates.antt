@@ -1,43 +1,51 @@
 -- The sum and the items follow the parser of the definition.
+use Rattle.std.specs.Prelude.{Option, None, Some, Ok, Err}
 use Prim.Native.Nat.{ℕ, zero, suc, ◌+◌, ◌-◌, max}
 use mathlib.Core.Path.{◌≡◌, refl, sym, ap, ap₂, subst, ◌∙◌}
 use mathlib.Core.List.{List, [], ◌∷◌, ◌++◌, append_assoc, append-nil}
-use mathlib.Core.Bool.{true, false}
-use mathlib.Core.Option.{Option, none, some}
 use native.Mathlib.Omega.{arith}
 use native.Mathlib.Numerals.{add-one}
 use lib.ListN.{length, length-append, set}
 use lib.Seq.{sets}
 use lib.Dec.{eqb-suc-zero}
-use Rattle.typing.specs.Words.{Transport, tcp, udp, sctp, Side, Join, Word, name, over, side, host, port, opening, closing, negate, join, address, number, Placed, known, strange}
-use Rattle.typing.specs.Phrase.{Term, named, bare, hosts, ports, Operand, term, negated, brackets, Phrase, operand_depth, depth}
-use Rattle.typing.specs.Phrase.{dir_byte, transport_byte, maybe_byte, join_byte}
+use Rattle.error.specs.declared.Refusal.TheVariants.{UnknownWord, Unfinished}
+use Rattle.typing.specs.declared.Transport.{Transport}
+use Rattle.typing.specs.declared.Side.{Side}
+use Rattle.typing.specs.declared.Join.{Join}
+use Rattle.typing.specs.declared.Word.{Word}
+use Rattle.typing.specs.declared.Word.TheVariants.{Name as name, Over as over, Side as side, Host as host, Port as port, Opening as opening, Closing as closing, Negate as negate, Join as join, Address as address, Number as number}
+use Rattle.typing.specs.declared.Term.{Term}
+use Rattle.typing.specs.declared.Term.TheVariants.{Named as named, Bare as bare, Hosts as hosts, Ports as ports}
+use Rattle.typing.specs.Words.{Placed, known, strange}
+use Rattle.typing.specs.Phrase.{Operand, term, negated, brackets, Phrase, operand_depth, depth}
 use Rattle.typing.specs.Finds.{Found, phrase, unknown, unfinished}
 use Rattle.typing.specs.Parse.{Level, fresh, after, notted, nots, fill, State, want, lone, sided, hosted, ported, full, close, sided_host, step, ended, final, ends, scan}
-use Rattle.words.specs.Tokens.{token_of}
+use Rattle.typing.specs.Typed.{fault}
+use Rattle.lines.specs.declared.Entry.TheVariants.{Not, Both, Leaf}
+use Rattle.lines.specs.declared.Item.{Item}
 use Rattle.lines.specs.declared.Spot.{Spot}
 use Rattle.lines.specs.declared.Spot.TheVariants.{Want, Lone, Sided, Hosted, Ported, Full}
-use Rattle.lines.specs.declared.Move.TheVariants.{Close, Both}
+use Rattle.lines.specs.declared.Move.{Move}
+use Rattle.lines.specs.declared.Move.TheVariants.{Go, Put, Open, Close}
 use Rattle.lines.specs.declared.Sum.{Sum}
-use Rattle.lines.specs.declared.Scan.TheVariants.{Strange, Unfinished, Whole}
-use Rattle.lines.specs.Reads.{item, sum, moved, stored, ready, ready_items, move, refuses, closed, rested, rest_items, Result, result, scans}
-use Rattle.lines.specs.Items.{term_item, operand_items, phrase_items}
+use Rattle.lines.specs.Reads.{item, size, sum, moved, stored, ready, ready_items, move, closed, rested, rest_items, Reading, reading, scans}
+use Rattle.lines.specs.Items.{operand_items, phrase_items}
 
 -- ---- the items and the depth of what has been read
 
-unfoldable pub not_items : ℕ → ℕ → List ℕ
+unfoldable pub not_items : ℕ → ℕ → List Item
 not_items d zero = []
-not_items d (suc n) = item d 3 0 0 0 ∷ not_items d n
+not_items d (suc n) = item d Not ∷ not_items d n
 
-unfoldable pub level_items : ℕ → Level → List ℕ
+unfoldable pub level_items : ℕ → Level → List Item
 level_items d (fresh n) = not_items d n
-level_items d (after p j n) = phrase_items d p ++ (item d (join_byte j) 0 0 0 ∷ not_items d n)
+level_items d (after p j n) = phrase_items d p ++ (item d (Both j) ∷ not_items d n)
 
 unfoldable pub level_deep : Level → ℕ
 level_deep (fresh n) = 0
 level_deep (after p j n) = depth p
 
-unfoldable pub outer_items : List Level → List ℕ
+unfoldable pub outer_items : List Level → List Item
 outer_items [] = []
 outer_items (l ∷ ls) = outer_items ls ++ level_items (length ls) l
 
@@ -45,19 +53,19 @@ unfoldable pub outer_deep : List Level → ℕ
 outer_deep [] = 0
 outer_deep (l ∷ ls) = max (max (outer_deep ls) (length ls + level_deep l)) (length ls + 1)
 
-abbrev pub want_items : Level → List Level → List ℕ
+abbrev pub want_items : Level → List Level → List Item
 want_items l ls = outer_items ls ++ level_items (length ls) l
 
 abbrev pub want_deep : Level → List Level → ℕ
 want_deep l ls = max (outer_deep ls) (length ls + level_deep l)
 
-abbrev pub full_items : Phrase → List Level → List ℕ
+abbrev pub full_items : Phrase → List Level → List Item
 full_items p ls = outer_items ls ++ phrase_items (length ls) p
 
 abbrev pub full_deep : Phrase → List Level → ℕ
 full_deep p ls = max (outer_deep ls) (length ls + depth p)
 
-abbrev pub state_items : State → List ℕ
+abbrev pub state_items : State → List Item
 state_items (want l ls) = want_items l ls
 state_items (lone t l ls) = want_items l ls
 state_items (sided t s l ls) = want_items l ls
@@ -73,18 +81,18 @@ full_sum p ls = sum Full (length ls) (full_deep p ls) (length (full_items p ls))
 
 abbrev pub sum_of : State → Sum
 sum_of (want l ls) = want_sum Want l ls
-sum_of (lone t l ls) = want_sum (Lone (transport_byte t)) l ls
-sum_of (sided t s l ls) = want_sum (Sided (maybe_byte t) (dir_byte (some s))) l ls
-sum_of (hosted s l ls) = want_sum (Hosted (dir_byte s)) l ls
-sum_of (ported t s l ls) = want_sum (Ported (maybe_byte t) (dir_byte s)) l ls
+sum_of (lone t l ls) = want_sum (Lone t) l ls
+sum_of (sided t s l ls) = want_sum (Sided t s) l ls
+sum_of (hosted s l ls) = want_sum (Hosted s) l ls
+sum_of (ported t s l ls) = want_sum (Ported t s) l ls
 sum_of (full p ls) = full_sum p ls
 
 -- ---- laws
 
-not_snoc : (d n : ℕ) (r : List ℕ) → not_items d n ++ (item d 3 0 0 0 ∷ r) ≡ item d 3 0 0 0 ∷ (not_items d n ++ r)
+not_snoc : (d n : ℕ) (r : List Item) → not_items d n ++ (item d Not ∷ r) ≡ item d Not ∷ (not_items d n ++ r)
 unfolding not_items
 not_snoc d zero r = refl
-not_snoc d (suc n) r = ap (λ x. item d 3 0 0 0 ∷ x) (not_snoc d n r)
+not_snoc d (suc n) r = ap (λ x. item d Not ∷ x) (not_snoc d n r)
 
 nots_items : (d n : ℕ) (o : Operand) → operand_items d (nots n o) ≡ not_items d n ++ operand_items d o
 unfolding not_items
@@ -95,8 +103,8 @@ fill_items : (d : ℕ) (l : Level) (o : Operand) → phrase_items d (fill l o) �
 unfolding level_items
 fill_items d (fresh n) o = nots_items d n o
 fill_items d (after p j n) o =
-    ap (λ x. phrase_items d p ++ (item d (join_byte j) 0 0 0 ∷ x)) (nots_items d n o)
-    ∙ sym (append_assoc (phrase_items d p) (item d (join_byte j) 0 0 0 ∷ not_items d n) (operand_items d o))
+    ap (λ x. phrase_items d p ++ (item d (Both j) ∷ x)) (nots_items d n o)
+    ∙ sym (append_assoc (phrase_items d p) (item d (Both j) ∷ not_items d n) (operand_items d o))
 
 nots_deep : (n : ℕ) (o : Operand) → operand_depth (nots n o) ≡ operand_depth o
 nots_deep zero o = refl
@@ -110,12 +118,12 @@ fill_deep (after p j n) o = ap (max (depth p)) (nots_deep n o)
 filled : (l : Level) (o : Operand) (ls : List Level) → full_items (fill l o) ls ≡ want_items l ls ++ operand_items (length ls) o
 filled l o ls = ap (λ x. outer_items ls ++ x) (fill_items (length ls) l o) ∙ sym (append_assoc (outer_items ls) (level_items (length ls) l) (operand_items (length ls) o))
 
-notted_items : (d : ℕ) (l : Level) → level_items d (notted l) ≡ level_items d l ++ (item d 3 0 0 0 ∷ [])
+notted_items : (d : ℕ) (l : Level) → level_items d (notted l) ≡ level_items d l ++ (item d Not ∷ [])
 unfolding level_items not_items
-notted_items d (fresh n) = ap (λ x. item d 3 0 0 0 ∷ x) (sym (append-nil (not_items d n))) ∙ sym (not_snoc d n [])
+notted_items d (fresh n) = ap (λ x. item d Not ∷ x) (sym (append-nil (not_items d n))) ∙ sym (not_snoc d n [])
 notted_items d (after p j n) =
-    ap (λ x. phrase_items d p ++ (item d (join_byte j) 0 0 0 ∷ x)) (ap (λ x. item d 3 0 0 0 ∷ x) (sym (append-nil (not_items d n))) ∙ sym (not_snoc d n []))
-    ∙ sym (append_assoc (phrase_items d p) (item d (join_byte j) 0 0 0 ∷ not_items d n) (item d 3 0 0 0 ∷ []))
+    ap (λ x. phrase_items d p ++ (item d (Both j) ∷ x)) (ap (λ x. item d Not ∷ x) (sym (append-nil (not_items d n))) ∙ sym (not_snoc d n []))
+    ∙ sym (append_assoc (phrase_items d p) (item d (Both j) ∷ not_items d n) (item d Not ∷ []))
 
 notted_deep : (l : Level) → level_deep (notted l) ≡ level_deep l
 unfolding level_deep
@@ -125,7 +133,7 @@ notted_deep (after p j n) = refl
 same_sum : {x : Spot} {d e m n a b : ℕ} → d ≡ e → m ≡ n → a ≡ b → sum x d m a ≡ sum x e n b
 same_sum {x} p q r = λ i. sum x (p i) (q i) (r i)
 
-sets_snoc : (l : List ℕ) (i : ℕ) (xs : List ℕ) (a : ℕ) → sets l i (xs ++ (a ∷ [])) ≡ set (sets l i xs) (i + length xs) a
+sets_snoc : (l : List Item) (i : ℕ) (xs : List Item) (a : Item) → sets l i (xs ++ (a ∷ [])) ≡ set (sets l i xs) (i + length xs) a
 sets_snoc l i [] a = ap (λ (k : ℕ). set l k a) (omega arith)
 sets_snoc l i (x ∷ xs) a =
     let e : suc i + length xs ≡ i + suc (length xs) = omega arith in
@@ -133,22 +141,22 @@ sets_snoc l i (x ∷ xs) a =
 
 -- ---- the moves
 
-module _ (l₀ : List ℕ) where
-  unfoldable pub written : List ℕ → List ℕ
+module _ (l₀ : List Item) where
+  unfoldable pub written : List Item → List Item
   written xs = sets l₀ 0 xs
 
   -- one item more
-  one_more : (xs ys : List ℕ) (a : ℕ) → ys ≡ xs ++ (a ∷ []) → (length xs + 1 ≡ length ys) × (set (written xs) (length xs) a ≡ written ys)
+  one_more : (xs ys : List Item) (a : Item) → ys ≡ xs ++ (a ∷ []) → (length xs + 1 ≡ length ys) × (set (written xs) (length xs) a ≡ written ys)
   unfolding written
   one_more xs ys a e =
       let n : 0 + length xs ≡ length xs = omega arith in
       (omega (arith, length-append xs (a ∷ []), ap length e), sym (ap (sets l₀ 0) e ∙ (sets_snoc l₀ 0 xs a ∙ ap (λ (k : ℕ). set (sets l₀ 0 xs) k a) n)))
 
   leaf_sum : (l : Level) (ls : List Level) (t : Term) → sum Full (length ls) (want_deep l ls) (length (want_items l ls) + 1) ≡ full_sum (fill l (term t)) ls
-  leaf_sum l ls t = same_sum refl (omega (arith, fill_deep l (term t))) (one_more (want_items l ls) (full_items (fill l (term t)) ls) (term_item (length ls) t) (filled l (term t) ls)).0
+  leaf_sum l ls t = same_sum refl (omega (arith, fill_deep l (term t))) (one_more (want_items l ls) (full_items (fill l (term t)) ls) (item (length ls) (Leaf t)) (filled l (term t) ls)).0
 
-  leaf_items : (l : Level) (ls : List Level) (t : Term) → set (written (want_items l ls)) (length (want_items l ls)) (term_item (length ls) t) ≡ written (full_items (fill l (term t)) ls)
-  leaf_items l ls t = (one_more (want_items l ls) (full_items (fill l (term t)) ls) (term_item (length ls) t) (filled l (term t) ls)).1
+  leaf_items : (l : Level) (ls : List Level) (t : Term) → set (written (want_items l ls)) (length (want_items l ls)) (item (length ls) (Leaf t)) ≡ written (full_items (fill l (term t)) ls)
+  leaf_items l ls t = (one_more (want_items l ls) (full_items (fill l (term t)) ls) (item (length ls) (Leaf t)) (filled l (term t) ls)).1
 
   open_sum : (l : Level) (ls : List Level) → sum Want (length ls + 1) (max (want_deep l ls) (length ls + 1)) (length (want_items l ls)) ≡ want_sum Want (fresh 0) (l ∷ ls)
   unfolding outer_items outer_deep level_items level_deep not_items
@@ -158,25 +166,25 @@ module _ (l₀ : List ℕ) where
   unfolding outer_items level_items not_items
   open_items l ls = ap written (sym (append-nil (want_items l ls)))
 
-  not_grows : (l : Level) (ls : List Level) → want_items (notted l) ls ≡ want_items l ls ++ (item (length ls) 3 0 0 0 ∷ [])
-  not_grows l ls = ap (λ x. outer_items ls ++ x) (notted_items (length ls) l) ∙ sym (append_assoc (outer_items ls) (level_items (length ls) l) (item (length ls) 3 0 0 0 ∷ []))
+  not_grows : (l : Level) (ls : List Level) → want_items (notted l) ls ≡ want_items l ls ++ (item (length ls) Not ∷ [])
+  not_grows l ls = ap (λ x. outer_items ls ++ x) (notted_items (length ls) l) ∙ sym (append_assoc (outer_items ls) (level_items (length ls) l) (item (length ls) Not ∷ []))
 
   not_sum : (l : Level) (ls : List Level) → sum Want (length ls) (want_deep l ls) (length (want_items l ls) + 1) ≡ want_sum Want (notted l) ls
-  not_sum l ls = same_sum refl (ap (λ (k : ℕ). max (outer_deep ls) (length ls + k)) (sym (notted_deep l))) (one_more (want_items l ls) (want_items (notted l) ls) (item (length ls) 3 0 0 0) (not_grows l ls)).0
+  not_sum l ls = same_sum refl (ap (λ (k : ℕ). max (outer_deep ls) (length ls + k)) (sym (notted_deep l))) (one_more (want_items l ls) (want_items (notted l) ls) (item (length ls) Not) (not_grows l ls)).0
 
-  not_items_lem : (l : Level) (ls : List Level) → set (written (want_items l ls)) (length (want_items l ls)) (item (length ls) 3 0 0 0) ≡ written (want_items (notted l) ls)
-  not_items_lem l ls = (one_more (want_items l ls) (want_items (notted l) ls) (item (length ls) 3 0 0 0) (not_grows l ls)).1
+  not_items_lem : (l : Level) (ls : List Level) → set (written (want_items l ls)) (length (want_items l ls)) (item (length ls) Not) ≡ written (want_items (notted l) ls)
+  not_items_lem l ls = (one_more (want_items l ls) (want_items (notted l) ls) (item (length ls) Not) (not_grows l ls)).1
 
-  join_grows : (p : Phrase) (j : Join) (ls : List Level) → want_items (after p j 0) ls ≡ full_items p ls ++ (item (length ls) (join_byte j) 0 0 0 ∷ [])
+  join_grows : (p : Phrase) (j : Join) (ls : List Level) → want_items (after p j 0) ls ≡ full_items p ls ++ (item (length ls) (Both j) ∷ [])
   unfolding level_items not_items
-  join_grows p j ls = sym (append_assoc (outer_items ls) (phrase_items (length ls) p) (item (length ls) (join_byte j) 0 0 0 ∷ []))
+  join_grows p j ls = sym (append_assoc (outer_items ls) (phrase_items (length ls) p) (item (length ls) (Both j) ∷ []))
 
   join_sum : (p : Phrase) (j : Join) (ls : List Level) → sum Want (length ls) (full_deep p ls) (length (full_items p ls) + 1) ≡ want_sum Want (after p j 0) ls
   unfolding level_deep
-  join_sum p j ls = same_sum refl refl (one_more (full_items p ls) (want_items (after p j 0) ls) (item (length ls) (join_byte j) 0 0 0) (join_grows p j ls)).0
+  join_sum p j ls = same_sum refl refl (one_more (full_items p ls) (want_items (after p j 0) ls) (item (length ls) (Both j)) (join_grows p j ls)).0
 
-  join_items : (p : Phrase) (j : Join) (ls : List Level) → set (written (full_items p ls)) (length (full_items p ls)) (item (length ls) (join_byte j) 0 0 0) ≡ written (want_items (after p j 0) ls)
-  join_items p j ls = (one_more (full_items p ls) (want_items (after p j 0) ls) (item (length ls) (join_byte j) 0 0 0) (join_grows p j ls)).1
+  join_items : (p : Phrase) (j : Join) (ls : List Level) → set (written (full_items p ls)) (length (full_items p ls)) (item (length ls) (Both j)) ≡ written (want_items (after p j 0) ls)
+  join_items p j ls = (one_more (full_items p ls) (want_items (after p j 0) ls) (item (length ls) (Both j)) (join_grows p j ls)).1
 
   close_grows : (p : Phrase) (l : Level) (ls : List Level) → full_items p (l ∷ ls) ≡ full_items (fill l (brackets p)) ls
   unfolding outer_items
@@ -186,56 +194,57 @@ module _ (l₀ : List ℕ) where
   unfolding outer_deep
   close_sum p l ls = same_sum (omega arith) (omega (arith, fill_deep l (brackets p))) (ap length (close_grows p l ls))
 
-  -- what a word makes of a state
+  -- what a word makes of a state: a move to another
+  record Makes (st : State) (w : Word) (st' : State) (m : Move) : Type 0 where
+    can : move (sum_of st) w ≡ Some m
+    sums : moved (ready w (sum_of st)) m ≡ sum_of st'
+    items : stored (ready w (sum_of st)) m (ready_items w (sum_of st) (written (state_items st))) ≡ written (state_items st')
+
+  -- or that it cannot follow
   abbrev Agrees : State → Word → Option State → Type 0
-  Agrees st w none = refuses (move (sum_of st) (token_of w)) ≡ true
-  Agrees st w (some st') =
-      (refuses (move (sum_of st) (token_of w)) ≡ false)
-      × (moved (ready (token_of w) (sum_of st)) (move (sum_of st) (token_of w)) ≡ sum_of st')
-      × (stored (ready (token_of w) (sum_of st)) (move (sum_of st) (token_of w)) (ready_items (token_of w) (sum_of st) (written (state_items st))) ≡ written (state_items st'))
+  Agrees st w None = move (sum_of st) w ≡ None
+  Agrees st w (Some st') = (m : Move) × Makes st w st' m
+
+  goes : {st st' : State} {w : Word} (m : Move) → move (sum_of st) w ≡ Some m → moved (ready w (sum_of st)) m ≡ sum_of st'
+      → stored (ready w (sum_of st)) m (ready_items w (sum_of st) (written (state_items st))) ≡ written (state_items st') → (m : Move) × Makes st w st' m
+  goes m e f g = (m, record { can = e; sums = f; items = g })
 
   full_close : (p : Phrase) (ls : List Level) → Agrees (full p ls) closing (close p ls)
   full_close p [] = refl
-  full_close p (l ∷ ls) = rw (eqb-suc-zero (length ls)) (refl, close_sum p l ls, ap written (close_grows p l ls))
+  full_close p (l ∷ ls) = goes Close (rw (eqb-suc-zero (length ls))) (close_sum p l ls) (ap written (close_grows p l ls))
 
   lone_close : (t : Transport) (l : Level) (ls : List Level) → Agrees (lone t l ls) closing (close (fill l (term (bare t))) ls)
   lone_close t l [] = refl
-  lone_close t l (k ∷ ls) = rw (eqb-suc-zero (length ls)) (
-    refl,
-    ap (λ x. moved x Close) (leaf_sum l (k ∷ ls) (bare t)) ∙ close_sum (fill l (term (bare t))) k ls,
-    leaf_items l (k ∷ ls) (bare t) ∙ ap written (close_grows (fill l (term (bare t))) k ls),
-  )
+  lone_close t l (k ∷ ls) =
+      goes Close (rw (eqb-suc-zero (length ls))) (ap (λ x. moved x Close) (leaf_sum l (k ∷ ls) (bare t)) ∙ close_sum (fill l (term (bare t))) k ls)
+      (leaf_items l (k ∷ ls) (bare t) ∙ ap written (close_grows (fill l (term (bare t))) k ls))
 
-  lone_join : (t : Transport) (l : Level) (ls : List Level) (j : Join) → Agrees (lone t l ls) (join j) (some (want (after (fill l (term (bare t))) j 0) ls))
-  lone_join t l ls j = (
-    refl,
-    ap (λ x. moved x (Both (join_byte j))) (leaf_sum l ls (bare t)) ∙ join_sum (fill l (term (bare t))) j ls,
-    ap₂ (λ x y. stored x (Both (join_byte j)) y) (leaf_sum l ls (bare t)) (leaf_items l ls (bare t)) ∙ join_items (fill l (term (bare t))) j ls,
-  )
+  lone_join : (t : Transport) (l : Level) (ls : List Level) (j : Join) → Agrees (lone t l ls) (join j) (Some (want (after (fill l (term (bare t))) j 0) ls))
+  lone_join t l ls j =
+      goes (Put (Both j)) refl (ap (λ x. moved x (Put (Both j))) (leaf_sum l ls (bare t)) ∙ join_sum (fill l (term (bare t))) j ls)
+      (ap₂ (λ x y. stored x (Put (Both j)) y) (leaf_sum l ls (bare t)) (leaf_items l ls (bare t)) ∙ join_items (fill l (term (bare t))) j ls)
 
   sided_host_lem : (t : Option Transport) (s : Side) (l : Level) (ls : List Level) → Agrees (sided t s l ls) host (sided_host t s l ls)
-  sided_host_lem none s l ls = (refl, refl, refl)
-  sided_host_lem (some tcp) s l ls = refl
-  sided_host_lem (some udp) s l ls = refl
-  sided_host_lem (some sctp) s l ls = refl
+  sided_host_lem None s l ls = goes (Go (Hosted (Some s))) refl refl refl
+  sided_host_lem (Some t) s l ls = refl
 
   agrees : (st : State) (w : Word) → Agrees st w (step st w)
-  agrees (want l ls) (name n) = (refl, leaf_sum l ls (named n), leaf_items l ls (named n))
-  agrees (want l ls) (over t) = (refl, refl, refl)
-  agrees (want l ls) (side s) = (refl, refl, refl)
-  agrees (want l ls) host = (refl, refl, refl)
-  agrees (want l ls) port = (refl, refl, refl)
-  agrees (want l ls) opening = (refl, open_sum l ls, open_items l ls)
+  agrees (want l ls) (name n) = goes (Put (Leaf (named n))) refl (leaf_sum l ls (named n)) (leaf_items l ls (named n))
+  agrees (want l ls) (over t) = goes (Go (Lone t)) refl refl refl
+  agrees (want l ls) (side s) = goes (Go (Sided None s)) refl refl refl
+  agrees (want l ls) host = goes (Go (Hosted None)) refl refl refl
+  agrees (want l ls) port = goes (Go (Ported None None)) refl refl refl
+  agrees (want l ls) opening = goes Open refl (open_sum l ls) (open_items l ls)
   agrees (want l ls) closing = refl
-  agrees (want l ls) negate = (refl, not_sum l ls, not_items_lem l ls)
+  agrees (want l ls) negate = goes (Put Not) refl (not_sum l ls) (not_items_lem l ls)
   agrees (want l ls) (join j) = refl
   agrees (want l ls) (address a) = refl
   agrees (want l ls) (number k) = refl
   agrees (lone t₀ l ls) (name n) = refl
   agrees (lone t₀ l ls) (over t) = refl
-  agrees (lone t₀ l ls) (side s) = (refl, refl, refl)
+  agrees (lone t₀ l ls) (side s) = goes (Go (Sided (Some t₀) s)) refl refl refl
   agrees (lone t₀ l ls) host = refl
-  agrees (lone t₀ l ls) port = (refl, refl, refl)
+  agrees (lone t₀ l ls) port = goes (Go (Ported (Some t₀) None)) refl refl refl
   agrees (lone t₀ l ls) opening = refl
   agrees (lone t₀ l ls) closing = lone_close t₀ l ls
   agrees (lone t₀ l ls) negate = refl
@@ -246,7 +255,7 @@ module _ (l₀ : List ℕ) where
   agrees (sided t₀ s₀ l ls) (over t) = refl
   agrees (sided t₀ s₀ l ls) (side s) = refl
   agrees (sided t₀ s₀ l ls) host = sided_host_lem t₀ s₀ l ls
-  agrees (sided t₀ s₀ l ls) port = (refl, refl, refl)
+  agrees (sided t₀ s₀ l ls) port = goes (Go (Ported t₀ (Some s₀))) refl refl refl
   agrees (sided t₀ s₀ l ls) opening = refl
   agrees (sided t₀ s₀ l ls) closing = refl
   agrees (sided t₀ s₀ l ls) negate = refl
@@ -262,7 +271,7 @@ module _ (l₀ : List ℕ) where
   agrees (hosted s₀ l ls) closing = refl
   agrees (hosted s₀ l ls) negate = refl
   agrees (hosted s₀ l ls) (join j) = refl
-  agrees (hosted s₀ l ls) (address a) = (refl, leaf_sum l ls (hosts s₀ a), leaf_items l ls (hosts s₀ a))
+  agrees (hosted s₀ l ls) (address a) = goes (Put (Leaf (hosts s₀ a))) refl (leaf_sum l ls (hosts s₀ a)) (leaf_items l ls (hosts s₀ a))
   agrees (hosted s₀ l ls) (number k) = refl
   agrees (ported t₀ s₀ l ls) (name n) = refl
   agrees (ported t₀ s₀ l ls) (over t) = refl
@@ -274,7 +283,7 @@ module _ (l₀ : List ℕ) where
   agrees (ported t₀ s₀ l ls) negate = refl
   agrees (ported t₀ s₀ l ls) (join j) = refl
   agrees (ported t₀ s₀ l ls) (address a) = refl
-  agrees (ported t₀ s₀ l ls) (number k) = (refl, leaf_sum l ls (ports t₀ s₀ k), leaf_items l ls (ports t₀ s₀ k))
+  agrees (ported t₀ s₀ l ls) (number k) = goes (Put (Leaf (ports t₀ s₀ k))) refl (leaf_sum l ls (ports t₀ s₀ k)) (leaf_items l ls (ports t₀ s₀ k))
   agrees (full p ls) (name n) = refl
   agrees (full p ls) (over t) = refl
   agrees (full p ls) (side s) = refl
@@ -283,28 +292,28 @@ module _ (l₀ : List ℕ) where
   agrees (full p ls) opening = refl
   agrees (full p ls) closing = full_close p ls
   agrees (full p ls) negate = refl
-  agrees (full p ls) (join j) = (refl, join_sum p j ls, join_items p j ls)
+  agrees (full p ls) (join j) = goes (Put (Both j)) refl (join_sum p j ls) (join_items p j ls)
   agrees (full p ls) (address a) = refl
   agrees (full p ls) (number k) = refl
 
   -- what is found, as the code has it
-  abbrev pub Follows : Found → Result → Type 0
-  Follows (phrase p) r = r ≡ result (Whole (length (phrase_items 0 p)) (depth p)) (written (phrase_items 0 p))
-  Follows (unknown k) r = r.scan ≡ Strange k
-  Follows (unfinished k) r = r.scan ≡ Unfinished k
+  abbrev pub Follows : Found → Reading → Type 0
+  Follows (phrase p) r = r ≡ reading (Ok (size (length (phrase_items 0 p)) (depth p))) (written (phrase_items 0 p))
+  Follows (unknown k) r = r.answer ≡ Err (fault UnknownWord k)
+  Follows (unfinished k) r = r.answer ≡ Err (fault Unfinished k)
 
-  full_ends : (end : ℕ) (p : Phrase) (ls : List Level) → Follows (ends end (ended p ls)) (result (closed end (full_sum p ls)) (written (full_items p ls)))
+  full_ends : (end : ℕ) (p : Phrase) (ls : List Level) → Follows (ends end (ended p ls)) (reading (closed end (full_sum p ls)) (written (full_items p ls)))
   unfolding outer_items outer_deep
-  full_ends end p [] = ap (λ (k : ℕ). result (Whole (length (phrase_items 0 p)) k) (written (phrase_items 0 p))) deep
+  full_ends end p [] = ap (λ (k : ℕ). reading (Ok (size (length (phrase_items 0 p)) k)) (written (phrase_items 0 p))) deep
     where
       deep : max 0 (0 + depth p) ≡ depth p
       deep = omega arith
   full_ends end p (l ∷ ls) = rw (eqb-suc-zero (length ls))
 
-  ends_follow : (end : ℕ) (st : State) → Follows (ends end (final st)) (result (closed end (rested (sum_of st))) (rest_items (sum_of st).spot (sum_of st) (written (state_items st))))
+  ends_follow : (end : ℕ) (st : State) → Follows (ends end (final st)) (reading (closed end (rested (sum_of st))) (rest_items (sum_of st) (written (state_items st))))
   ends_follow end (want l ls) = refl
   ends_follow end (lone t l ls) =
-      subst (Follows (ends end (ended (fill l (term (bare t))) ls))) (sym (ap₂ (λ x y. result (closed end x) y) (leaf_sum l ls (bare t)) (leaf_items l ls (bare t)))) (full_ends end (fill l (term (bare t))) ls)
+      subst (Follows (ends end (ended (fill l (term (bare t))) ls))) (sym (ap₂ (λ x y. reading (closed end x) y) (leaf_sum l ls (bare t)) (leaf_items l ls (bare t)))) (full_ends end (fill l (term (bare t))) ls)
   ends_follow end (sided t s l ls) = refl
   ends_follow end (hosted s l ls) = refl
   ends_follow end (ported t s l ls) = refl
@@ -314,8 +323,8 @@ module _ (l₀ : List ℕ) where
       → ((st' : State) → Follows (scan end st' ws) (scans end (sum_of st') (written (state_items st')) ws))
       → Follows (scan end st (known k w ∷ ws)) (scans end (sum_of st) (written (state_items st)) (known k w ∷ ws))
   unfolding scan scans
-  word_follows end k w ws st none e a ih = rw (e, scan, a, scans)
-  word_follows end k w ws st (some st') e a ih = rw (e, scan, a.0, scans, a.1, a.2) (ih st')
+  word_follows end k w ws st None e a ih = rw (e, scan, a, scans)
+  word_follows end k w ws st (Some st') e a ih = rw (e, scan, a.1.can, scans, a.1.sums, a.1.items) (ih st')
 
   pub simulate : (end : ℕ) (ws : List Placed) (st : State) → Follows (scan end st ws) (scans end (sum_of st) (written (state_items st)) ws)
   unfolding scan scans

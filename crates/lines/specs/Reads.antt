@@ -1,248 +1,162 @@
 -- What the functions of this crate promise one another: the line's words as items, each a record with the brackets open at its place.
-use Rattle.std.specs.Prelude.{ℕ, ◌+◌, ◌*◌, ◌-◌, ◌%◌, ◌≤◌, max, List, [], ◌∷◌, Bool, true, false, cond, ◌&&◌, set, eqb}
+use Rattle.std.specs.Prelude.{ℕ, ◌+◌, ◌-◌, ◌≤◌, min, max, List, [], ◌∷◌, Bool, true, false, cond, ◌&&◌, set, eqb, Option, None, Some, Result, Ok, Err}
+use Rattle.error.specs.declared.Refusal.TheVariants.{UnknownWord, Unfinished}
+use Rattle.typing.specs.declared.Fault.{Fault}
+use Rattle.typing.specs.declared.Side.{Side}
+use Rattle.typing.specs.declared.Transport.{Transport}
+use Rattle.typing.specs.declared.Term.TheVariants.{Named as named, Bare as bare, Hosts as hosts, Ports as ports}
+use Rattle.typing.specs.declared.Word.{Word}
+use Rattle.typing.specs.declared.Word.TheVariants.{Name as name, Over as over, Side as side, Host as host, Port as port, Opening as opening, Closing as closing, Negate as negate, Join as join, Address as address, Number as number}
 use Rattle.typing.specs.Words.{Placed, known, strange}
-use Rattle.words.specs.declared.Token.{Token}
-use Rattle.words.specs.declared.Token.TheVariants.{Unknown, Name, Over, Side, Host, Port, Opening, Closing, Negate, Join, Address, Number}
-use Rattle.words.specs.Tokens.{token_of}
+use Rattle.typing.specs.Typed.{fault}
+use Rattle.lines.specs.declared.Entry.{Entry}
+use Rattle.lines.specs.declared.Entry.TheVariants.{Not, Both, Leaf}
+use Rattle.lines.specs.declared.Item.{Item}
+use Rattle.lines.specs.declared.Size.{Size}
 use Rattle.lines.specs.declared.Spot.{Spot}
 use Rattle.lines.specs.declared.Spot.TheVariants.{Want, Lone, Sided, Hosted, Ported, Full}
 use Rattle.lines.specs.declared.Move.{Move}
-use Rattle.lines.specs.declared.Move.TheVariants.{Refuse, Go, Leaf, Open, Close, Not, Both}
+use Rattle.lines.specs.declared.Move.TheVariants.{Go, Put, Open, Close}
 use Rattle.lines.specs.declared.Sum.{Sum}
-use Rattle.lines.specs.declared.Step.{Step}
-use Rattle.lines.specs.declared.Step.TheVariants.{Unread, Stopped, Done}
-use Rattle.lines.specs.declared.Scan.{Scan}
-use Rattle.lines.specs.declared.Scan.TheVariants.{Strange, Unfinished, Whole}
 
--- an item: a record, and the brackets open at its place
-unfoldable pub item : ℕ → ℕ → ℕ → ℕ → ℕ → ℕ
-item depth kind dir proto value = depth % 256 + 256 * kind + 65536 * dir + 16777216 * proto + 4294967296 * value
+-- a record, and the brackets open at its place: 255 for more
+abbrev pub item : ℕ → Entry → Item
+item d e = record { depth = min d 255; entry = e }
+
+abbrev pub size : ℕ → ℕ → Size
+size n m = record { records = n; deepest = m }
 
 abbrev pub sum : Spot → ℕ → ℕ → ℕ → Sum
 sum s d m n = record { spot = s; depth = d; deepest = m; count = n }
 
-abbrev pub want_of : Token → Move
-want_of Unknown = Refuse
-want_of (Name p) = Leaf 10 0 p 0
-want_of (Over p) = Go (Lone p)
-want_of (Side d) = Go (Sided 0 d)
-want_of Host = Go (Hosted 0)
-want_of Port = Go (Ported 0 0)
-want_of Opening = Open
-want_of Closing = Refuse
-want_of Negate = Not
-want_of (Join k) = Refuse
-want_of (Address v) = Refuse
-want_of (Number v) = Refuse
+-- no protocol stands before a host or its direction
+abbrev pub host_of : Option Transport → Side → Option Move
+host_of None s = Some (Go (Hosted (Some s)))
+host_of (Some t) s = None
 
-abbrev pub lone_of : ℕ → Token → Move
-lone_of q Unknown = Refuse
-lone_of q (Name p) = Refuse
-lone_of q (Over p) = Refuse
-lone_of q (Side d) = Go (Sided q d)
-lone_of q Host = Refuse
-lone_of q Port = Go (Ported q 0)
-lone_of q Opening = Refuse
-lone_of q Closing = Refuse
-lone_of q Negate = Refuse
-lone_of q (Join k) = Refuse
-lone_of q (Address v) = Refuse
-lone_of q (Number v) = Refuse
+-- brackets close where some are open
+abbrev pub close_of : ℕ → Option Move
+close_of d = cond (eqb d 0) None (Some Close)
 
-abbrev pub sided_of : ℕ → ℕ → Token → Move
-sided_of q e Unknown = Refuse
-sided_of q e (Name p) = Refuse
-sided_of q e (Over p) = Refuse
-sided_of q e (Side d) = Refuse
-sided_of q e Host = cond (eqb q 0) (Go (Hosted e)) Refuse
-sided_of q e Port = Go (Ported q e)
-sided_of q e Opening = Refuse
-sided_of q e Closing = Refuse
-sided_of q e Negate = Refuse
-sided_of q e (Join k) = Refuse
-sided_of q e (Address v) = Refuse
-sided_of q e (Number v) = Refuse
+-- what a word does, by what stands before it and the brackets that are open; none where it cannot follow
+abbrev pub next_of : Spot → ℕ → Word → Option Move
+next_of Want d (name n) = Some (Put (Leaf (named n)))
+next_of Want d (over t) = Some (Go (Lone t))
+next_of Want d (side s) = Some (Go (Sided None s))
+next_of Want d host = Some (Go (Hosted None))
+next_of Want d port = Some (Go (Ported None None))
+next_of Want d opening = Some Open
+next_of Want d negate = Some (Put Not)
+next_of (Lone t) d (side s) = Some (Go (Sided (Some t) s))
+next_of (Lone t) d port = Some (Go (Ported (Some t) None))
+next_of (Sided t s) d host = host_of t s
+next_of (Sided t s) d port = Some (Go (Ported t (Some s)))
+next_of (Hosted s) d (address a) = Some (Put (Leaf (hosts s a)))
+next_of (Ported t s) d (number k) = Some (Put (Leaf (ports t s k)))
+next_of Full d closing = close_of d
+next_of Full d (join j) = Some (Put (Both j))
+next_of _ _ _ = None
 
-abbrev pub hosted_of : ℕ → Token → Move
-hosted_of e Unknown = Refuse
-hosted_of e (Name p) = Refuse
-hosted_of e (Over p) = Refuse
-hosted_of e (Side d) = Refuse
-hosted_of e Host = Refuse
-hosted_of e Port = Refuse
-hosted_of e Opening = Refuse
-hosted_of e Closing = Refuse
-hosted_of e Negate = Refuse
-hosted_of e (Join k) = Refuse
-hosted_of e (Address v) = Leaf 11 e 0 v
-hosted_of e (Number v) = Refuse
+-- what stands behind a record's last word
+abbrev pub behind : Entry → Spot
+behind Not = Want
+behind (Both j) = Want
+behind (Leaf t) = Full
 
-abbrev pub ported_of : ℕ → ℕ → Token → Move
-ported_of q e Unknown = Refuse
-ported_of q e (Name p) = Refuse
-ported_of q e (Over p) = Refuse
-ported_of q e (Side d) = Refuse
-ported_of q e Host = Refuse
-ported_of q e Port = Refuse
-ported_of q e Opening = Refuse
-ported_of q e Closing = Refuse
-ported_of q e Negate = Refuse
-ported_of q e (Join k) = Refuse
-ported_of q e (Address v) = Refuse
-ported_of q e (Number v) = Leaf 15 e q v
-
-abbrev pub full_of : ℕ → Token → Move
-full_of n Unknown = Refuse
-full_of n (Name p) = Refuse
-full_of n (Over p) = Refuse
-full_of n (Side d) = Refuse
-full_of n Host = Refuse
-full_of n Port = Refuse
-full_of n Opening = Refuse
-full_of n Closing = cond (eqb n 0) Refuse Close
-full_of n Negate = Refuse
-full_of n (Join k) = Both k
-full_of n (Address v) = Refuse
-full_of n (Number v) = Refuse
-
--- what a word does, by what stands before it and the brackets that are open
-abbrev pub next_of : Spot → ℕ → Token → Move
-next_of Want n w = want_of w
-next_of (Lone q) n w = lone_of q w
-next_of (Sided q e) n w = sided_of q e w
-next_of (Hosted e) n w = hosted_of e w
-next_of (Ported q e) n w = ported_of q e w
-next_of Full n w = full_of n w
-
--- the sum after a word, and the items
+-- the sum after a move, and the items
 abbrev pub moved : Sum → Move → Sum
-moved s Refuse = s
 moved s (Go x) = sum x s.depth s.deepest s.count
-moved s (Leaf k d p v) = sum Full s.depth s.deepest (s.count + 1)
+moved s (Put e) = sum (behind e) s.depth s.deepest (s.count + 1)
 moved s Open = sum Want (s.depth + 1) (max s.deepest (s.depth + 1)) s.count
 moved s Close = sum Full (s.depth - 1) s.deepest s.count
-moved s Not = sum Want s.depth s.deepest (s.count + 1)
-moved s (Both k) = sum Want s.depth s.deepest (s.count + 1)
 
-abbrev pub stored : Sum → Move → List ℕ → List ℕ
-stored s Refuse l = l
+abbrev pub stored : Sum → Move → List Item → List Item
 stored s (Go x) l = l
-stored s (Leaf k d p v) l = set l s.count (item s.depth k d p v)
+stored s (Put e) l = set l s.count (item s.depth e)
 stored s Open l = l
 stored s Close l = l
-stored s Not l = set l s.count (item s.depth 3 0 0 0)
-stored s (Both k) l = set l s.count (item s.depth k 0 0 0)
 
 -- a protocol that stands alone is a record where a join, a closing bracket or the end follows
-abbrev pub rested_at : Spot → Sum → Sum
-rested_at Want s = s
-rested_at (Lone p) s = sum Full s.depth s.deepest (s.count + 1)
-rested_at (Sided p d) s = s
-rested_at (Hosted d) s = s
-rested_at (Ported p d) s = s
-rested_at Full s = s
+abbrev pub alone : Spot → Option Move
+alone Want = None
+alone (Lone t) = Some (Put (Leaf (bare t)))
+alone (Sided t s) = None
+alone (Hosted s) = None
+alone (Ported t s) = None
+alone Full = None
+
+abbrev pub moved_by : Option Move → Sum → Sum
+moved_by None s = s
+moved_by (Some m) s = moved s m
+
+abbrev pub stored_by : Option Move → Sum → List Item → List Item
+stored_by None s l = l
+stored_by (Some m) s l = stored s m l
 
 abbrev pub rested : Sum → Sum
-rested s = rested_at s.spot s
+rested s = moved_by (alone s.spot) s
 
-abbrev pub rest_items : Spot → Sum → List ℕ → List ℕ
-rest_items Want s l = l
-rest_items (Lone p) s l = set l s.count (item s.depth 10 0 p 0)
-rest_items (Sided p d) s l = l
-rest_items (Hosted d) s l = l
-rest_items (Ported p d) s l = l
-rest_items Full s l = l
+abbrev pub rest_items : Sum → List Item → List Item
+rest_items s l = stored_by (alone s.spot) s l
 
-abbrev pub rests : Token → Bool
-rests Unknown = false
-rests (Name p) = false
-rests (Over p) = false
-rests (Side d) = false
-rests Host = false
-rests Port = false
-rests Opening = false
-rests Closing = true
-rests Negate = false
-rests (Join k) = true
-rests (Address v) = false
-rests (Number v) = false
-
-abbrev pub unread : Token → Bool
-unread Unknown = true
-unread (Name p) = false
-unread (Over p) = false
-unread (Side d) = false
-unread Host = false
-unread Port = false
-unread Opening = false
-unread Closing = false
-unread Negate = false
-unread (Join k) = false
-unread (Address v) = false
-unread (Number v) = false
+abbrev pub rests : Word → Bool
+rests closing = true
+rests (join j) = true
+rests _ = false
 
 -- the sum and the items as a word meets them
-abbrev pub ready : Token → Sum → Sum
+abbrev pub ready : Word → Sum → Sum
 ready w s = cond (rests w) (rested s) s
 
-abbrev pub ready_items : Token → Sum → List ℕ → List ℕ
-ready_items w s l = cond (rests w) (rest_items s.spot s l) l
+abbrev pub ready_items : Word → Sum → List Item → List Item
+ready_items w s l = cond (rests w) (rest_items s l) l
 
-abbrev pub move : Sum → Token → Move
+-- what a word makes of them
+abbrev pub move : Sum → Word → Option Move
 move s w = next_of (ready w s).spot (ready w s).depth w
 
-abbrev pub refuses : Move → Bool
-refuses Refuse = true
-refuses (Go x) = false
-refuses (Leaf k d p v) = false
-refuses Open = false
-refuses Close = false
-refuses Not = false
-refuses (Both k) = false
-
-abbrev pub step_of : Sum → Token → Step
-step_of s w = cond (unread w) Unread (cond (refuses (move s w)) Stopped (Done (moved (ready w s) (move s w))))
-
-abbrev pub step_items : Sum → Token → List ℕ → List ℕ
-step_items s w l = cond (unread w) l (stored (ready w s) (move s w) (ready_items w s l))
+abbrev pub taken : Option Move → ℕ → Result (Unit {0}) Fault
+taken None place = Err (fault Unfinished place)
+taken (Some m) place = Ok tt
 
 abbrev pub begin : Sum
 begin = sum Want 0 0 0
 
 abbrev pub is_full : Spot → Bool
 is_full Want = false
-is_full (Lone p) = false
-is_full (Sided p d) = false
-is_full (Hosted d) = false
-is_full (Ported p d) = false
+is_full (Lone t) = false
+is_full (Sided t s) = false
+is_full (Hosted s) = false
+is_full (Ported t s) = false
 is_full Full = true
 
-abbrev pub closed : ℕ → Sum → Scan
-closed end s = cond (is_full s.spot && eqb s.depth 0) (Whole s.count s.deepest) (Unfinished end)
+abbrev pub closed : ℕ → Sum → Result Size Fault
+closed end s = cond (is_full s.spot && eqb s.depth 0) (Ok (size s.count s.deepest)) (Err (fault Unfinished end))
 
-pub record Result : Type 0 where
-  pub scan : Scan
-  pub items : List ℕ
+-- what a line is: a word that is unknown, or one that cannot follow, at a place; or a phrase, with its size; and the items so far
+pub record Reading : Type 0 where
+  pub answer : Result Size Fault
+  pub items : List Item
 
-abbrev pub result : Scan → List ℕ → Result
-result r l = record { scan = r; items = l }
+abbrev pub reading : Result Size Fault → List Item → Reading
+reading r l = record { answer = r; items = l }
 
-unfoldable pub scans : ℕ → Sum → List ℕ → List Placed → Result
-scans end s l [] = result (closed end (rested s)) (rest_items s.spot s l)
-scans end s l (strange k ∷ ws) = result (Strange k) l
+unfoldable pub scans : ℕ → Sum → List Item → List Placed → Reading
+scans end s l [] = reading (closed end (rested s)) (rest_items s l)
+scans end s l (strange k ∷ ws) = reading (Err (fault UnknownWord k)) l
 scans end s l (known k w ∷ ws) =
-    elim (refuses (move s (token_of w))) [
-      | true ↦ result (Unfinished k) (ready_items (token_of w) s l)
-      | false ↦ scans end (moved (ready (token_of w) s) (move s (token_of w))) (stored (ready (token_of w) s) (move s (token_of w)) (ready_items (token_of w) s l)) ws
+    elim (move s w) [
+      | None ↦ reading (Err (fault Unfinished k)) (ready_items w s l)
+      | Some m ↦ scans end (moved (ready w s) m) (stored (ready w s) m (ready_items w s l)) ws
     ]
 
 -- the numbers of a sum grow no faster than the line
 abbrev pub extra : Spot → ℕ
 extra Want = 0
-extra (Lone p) = 1
-extra (Sided p d) = 0
-extra (Hosted d) = 0
-extra (Ported p d) = 0
+extra (Lone t) = 1
+extra (Sided t s) = 0
+extra (Hosted s) = 0
+extra (Ported t s) = 0
 extra Full = 0
 
 pub record Fits (s : Sum) (n : ℕ) : Type 0 where

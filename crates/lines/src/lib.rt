@@ -1,56 +1,68 @@
 // The words of a typed line, read from the left into items: each is a record with the brackets that are open at its place.
 #![tactic(auto)]
 
-ghost use Rattle.std.specs.Prelude.{◌≡◌, ◌+◌, ◌-◌, ◌^◌, ◌<◌, max, length, set};
+ghost use Rattle.std.specs.Prelude.{◌≡◌, ◌+◌, ◌-◌, ◌^◌, ◌<◌, length, set};
 ghost use Rattle.typing.specs.Words.{line_words};
 ghost use Rattle.lines.specs.Reads as R;
+ghost use Rattle.lines.specs.declared.Entry.TheVariants.{Leaf};
+ghost use Rattle.lines.specs.declared.Move.TheVariants.{Go, Put};
 
-use words::Token;
+use error::Refusal;
+use std::cmp::{max, min};
+use typing::{Fault, Join, Side, Term, Transport, Word};
 
-// Kinds of records.
-const NOT: u8 = 3;
+// What a record stands for.
+#[derive(Clone, Copy, Debug, PartialEq, Eq)]
+pub enum Entry {
+    Not,
+    Both(Join),
+    Leaf(Term),
+}
 
-const PROTOCOL: u8 = 10;
+// A record, and the brackets that are open at its place: 255 for more.
+#[derive(Clone, Copy, Debug, PartialEq, Eq)]
+pub struct Item {
+    pub depth: u8,
+    pub entry: Entry,
+}
 
-const HOST: u8 = 11;
+const DEPTH_MOST: usize = 255;
 
-const PORT: u8 = 15;
+// What stands in an array of items where no record is yet.
+pub const BLANK: Item = Item {
+    depth: 0,
+    entry: Entry::Not,
+};
 
-// An item is a number: from its lowest byte on the open brackets, kind, direction and protocol, then the address or the port.
-pub const KIND_AT: u64 = 256;
-
-pub const DIRECTION_AT: u64 = 65536;
-
-pub const PROTOCOL_AT: u64 = 16777216;
-
-pub const VALUE_AT: u64 = 4294967296;
+// The size of a phrase: its records, and the most brackets open at once.
+#[derive(Clone, Copy, Debug, PartialEq, Eq)]
+pub struct Size {
+    pub records: usize,
+    pub deepest: usize,
+}
 
 // What stands before the next word: where a condition has to follow; a protocol that may be alone; a protocol and a side; `host` and its
-// side; `port` with both; a whole phrase. Protocols and sides are their bytes in a record, 0 for none.
+// side; `port` with both; a whole phrase.
 #[derive(Clone, Copy)]
 enum Spot {
     Want,
-    Lone(u8),
-    Sided(u8, u8),
-    Hosted(u8),
-    Ported(u8, u8),
+    Lone(Transport),
+    Sided(Option<Transport>, Side),
+    Hosted(Option<Side>),
+    Ported(Option<Transport>, Option<Side>),
     Full,
 }
 
-// What a word does: it cannot follow; it goes on to another spot; it ends a condition (kind, side, protocol, value); it is a bracket, a not,
-// or a join of a kind.
+// What a word that can follow does: it goes on to another spot, it is the last of a record, or it is a bracket.
 #[derive(Clone, Copy)]
 enum Move {
-    Refuse,
     Go(Spot),
-    Leaf(u8, u8, u8, u32),
+    Put(Entry),
     Open,
     Close,
-    Not,
-    Both(u8),
 }
 
-// Where a line is read: the brackets open now and at most, and the records so far.
+// What stands before the next word, the brackets open now and at most, and the records so far.
 #[derive(Clone, Copy)]
 struct Sum {
     spot: Spot,
@@ -59,309 +71,204 @@ struct Sum {
     count: usize,
 }
 
-// What a word makes of it.
-#[derive(Clone, Copy)]
-enum Step {
-    Unread,
-    Stopped,
-    Done(Sum),
-}
-
-// What a line is: a word that is unknown, or one that cannot follow, at a place; or a phrase, with its records and the most brackets open.
-#[derive(Clone, Copy)]
-pub enum Scan {
-    Strange(usize),
-    Unfinished(usize),
-    Whole(usize, usize),
-}
-
 // ---- what a word does
 
-fn want(token: Token) -> Move
-    ensures { result ≡ R.want_of token }
+fn go(spot: Spot) -> Option<Move>
+    ensures { result ≡ Some (Go spot) }
 {
-    match token {
-        Token::Name(p) => Move::Leaf(PROTOCOL, 0, p, 0),
-        Token::Over(p) => Move::Go(Spot::Lone(p)),
-        Token::Side(d) => Move::Go(Spot::Sided(0, d)),
-        Token::Host => Move::Go(Spot::Hosted(0)),
-        Token::Port => Move::Go(Spot::Ported(0, 0)),
-        Token::Opening => Move::Open,
-        Token::Negate => Move::Not,
-        _ => Move::Refuse,
+    Some(Move::Go(spot))
+}
+
+fn leaf(term: Term) -> Option<Move>
+    ensures { result ≡ Some (Put (Leaf term)) }
+{
+    Some(Move::Put(Entry::Leaf(term)))
+}
+
+// By what stands before the word and the brackets that are open; none where it cannot follow.
+fn next(spot: Spot, depth: usize, word: Word) -> Option<Move>
+    ensures { result ≡ R.next_of spot depth word }
+{
+    match (spot, word) {
+        (Spot::Want, Word::Name(name)) => leaf(Term::Named(name)),
+        (Spot::Want, Word::Over(over)) => go(Spot::Lone(over)),
+        (Spot::Want, Word::Side(side)) => go(Spot::Sided(None, side)),
+        (Spot::Want, Word::Host) => go(Spot::Hosted(None)),
+        (Spot::Want, Word::Port) => go(Spot::Ported(None, None)),
+        (Spot::Want, Word::Opening) => Some(Move::Open),
+        (Spot::Want, Word::Negate) => Some(Move::Put(Entry::Not)),
+        (Spot::Lone(over), Word::Side(side)) => go(Spot::Sided(Some(over), side)),
+        (Spot::Lone(over), Word::Port) => go(Spot::Ported(Some(over), None)),
+        (Spot::Sided(None, side), Word::Host) => go(Spot::Hosted(Some(side))),
+        (Spot::Sided(over, side), Word::Port) => go(Spot::Ported(over, Some(side))),
+        (Spot::Hosted(side), Word::Address(address)) => leaf(Term::Hosts(side, address)),
+        (Spot::Ported(over, side), Word::Number(port)) => leaf(Term::Ports(over, side, port)),
+        (Spot::Full, Word::Closing) if depth > 0 => Some(Move::Close),
+        (Spot::Full, Word::Join(join)) => Some(Move::Put(Entry::Both(join))),
+        _ => None,
     }
 }
 
-fn lone(q: u8, token: Token) -> Move
-    ensures { result ≡ R.lone_of q token }
+// What stands behind a record's last word.
+fn behind(entry: Entry) -> Spot
+    ensures { result ≡ R.behind entry }
 {
-    match token {
-        Token::Side(d) => Move::Go(Spot::Sided(q, d)),
-        Token::Port => Move::Go(Spot::Ported(q, 0)),
-        _ => Move::Refuse,
-    }
-}
-
-fn sided(q: u8, e: u8, token: Token) -> Move
-    ensures { result ≡ R.sided_of q e token }
-{
-    match token {
-        Token::Port => Move::Go(Spot::Ported(q, e)),
-        Token::Host => {
-            if q == 0 {
-                Move::Go(Spot::Hosted(e))
-            } else {
-                Move::Refuse
-            }
-        }
-        _ => Move::Refuse,
-    }
-}
-
-fn hosted(e: u8, token: Token) -> Move
-    ensures { result ≡ R.hosted_of e token }
-{
-    match token {
-        Token::Address(v) => Move::Leaf(HOST, e, 0, v),
-        _ => Move::Refuse,
-    }
-}
-
-fn ported(q: u8, e: u8, token: Token) -> Move
-    ensures { result ≡ R.ported_of q e token }
-{
-    match token {
-        Token::Number(v) => Move::Leaf(PORT, e, q, v),
-        _ => Move::Refuse,
-    }
-}
-
-fn full(n: usize, token: Token) -> Move
-    ensures { result ≡ R.full_of n token }
-{
-    match token {
-        Token::Closing => { if n == 0 { Move::Refuse } else { Move::Close } }
-        Token::Join(k) => Move::Both(k),
-        _ => Move::Refuse,
-    }
-}
-
-fn next(spot: Spot, n: usize, token: Token) -> Move
-    ensures { result ≡ R.next_of spot n token }
-{
-    match spot {
-        Spot::Want => want(token),
-        Spot::Lone(q) => lone(q, token),
-        Spot::Sided(q, e) => sided(q, e, token),
-        Spot::Hosted(e) => hosted(e, token),
-        Spot::Ported(q, e) => ported(q, e, token),
-        Spot::Full => full(n, token),
+    match entry {
+        Entry::Leaf(_) => Spot::Full,
+        Entry::Not | Entry::Both(_) => Spot::Want,
     }
 }
 
 // ---- the sum and the items
 
-fn item(depth: usize, kind: u8, dir: u8, proto: u8, value: u32) -> u64
-    ensures { result ≡ R.item depth kind dir proto value }
+// An item at a place, if there is room.
+fn store(items: &mut [Item], place: usize, item: Item)
+    ensures { items.new ≡ set items.old place item }
 {
-    depth as u64 % KIND_AT
-        + KIND_AT * kind as u64
-        + DIRECTION_AT * dir as u64
-        + PROTOCOL_AT * proto as u64
-        + VALUE_AT * value as u64
-}
-
-// An item behind n others, if there is room.
-fn push(items: &mut [u64], n: usize, x: u64)
-    ensures { items.new ≡ set items.old n x }
-{
-    if n < items.len() {
-        items[n] = x;
+    // A test of the length: behind `get_mut` a proof knows no more than it.
+    if place < items.len() {
+        items[place] = item;
     }
 }
 
-fn less(n: usize) -> usize
-    ensures { result ≡ n - 1 }
-{
-    if n > 0 { n - 1 } else { 0 }
+// A line as far as it is read.
+#[derive(Drop)]
+struct Reader<'a> {
+    sum: Sum,
+    items: &'a mut [Item],
 }
 
-fn larger(a: usize, b: usize) -> usize
-    ensures { result ≡ max a b }
-{
-    if a < b { b } else { a }
-}
-
-// One record more.
-fn plus(sum: Sum, spot: Spot) -> Sum
-    requires { sum.count + 1 < 2 ^ 64 }
-    ensures { result ≡ R.sum spot sum.depth sum.deepest (sum.count + 1) }
-{
-    Sum {
-        spot,
-        depth: sum.depth,
-        deepest: sum.deepest,
-        count: sum.count + 1,
+impl<'a> Reader<'a> {
+    // A record more, whose item is kept if there is room.
+    // The bound is a clause of four: the count rises with each record.
+    fn put(&mut self, entry: Entry)
+        requires { self.old.sum.count + 1 < 2 ^ 64 }
+        ensures sum { self.new.sum ≡ R.sum (R.behind entry) self.old.sum.depth self.old.sum.deepest (self.old.sum.count + 1) }
+        ensures items { self.new.items.now ≡ set self.old.items.now self.old.sum.count (R.item self.old.sum.depth entry) }
+        ensures same_reference { self.new.items.ghost_name ≡ self.old.items.ghost_name }
+    {
+        let depth = min(self.sum.depth, DEPTH_MOST) as u8;
+        let item = Item { depth, entry };
+        store(self.items, self.sum.count, item);
+        self.sum.count += 1;
+        self.sum.spot = behind(entry);
     }
-}
 
-// A protocol that stands alone is a record.
-fn rest(sum: Sum, items: &mut [u64]) -> Sum
-    requires { sum.count + R.extra sum.spot < 2 ^ 64 }
-    ensures { (result ≡ R.rested sum) × (items.new ≡ R.rest_items sum.spot sum items.old) }
-{
-    let spot = sum.spot;
-    if let Spot::Lone(p) = spot {
-        push(items, sum.count, item(sum.depth, PROTOCOL, 0, p, 0));
-        return plus(sum, Spot::Full);
-    }
-    sum
-}
-
-fn apply(sum: Sum, step: Move, items: &mut [u64]) -> Sum
-    requires { (sum.count + 1 < 2 ^ 64) × (sum.depth + 1 < 2 ^ 64) }
-    ensures { (result ≡ R.moved sum step) × (items.new ≡ R.stored sum step items.old) }
-{
-    match step {
-        Move::Refuse => sum,
-        Move::Go(spot) => Sum {
-            spot,
-            depth: sum.depth,
-            deepest: sum.deepest,
-            count: sum.count,
-        },
-        Move::Leaf(k, d, p, v) => {
-            push(items, sum.count, item(sum.depth, k, d, p, v));
-            plus(sum, Spot::Full)
-        }
-        Move::Open => Sum {
-            spot: Spot::Want,
-            depth: sum.depth + 1,
-            deepest: larger(sum.deepest, sum.depth + 1),
-            count: sum.count,
-        },
-        Move::Close => Sum {
-            spot: Spot::Full,
-            depth: less(sum.depth),
-            deepest: sum.deepest,
-            count: sum.count,
-        },
-        Move::Not => {
-            push(items, sum.count, item(sum.depth, NOT, 0, 0, 0));
-            plus(sum, Spot::Want)
-        }
-        Move::Both(k) => {
-            push(items, sum.count, item(sum.depth, k, 0, 0, 0));
-            plus(sum, Spot::Want)
+    // A protocol that stands alone is a record.
+    fn rest(&mut self)
+        requires { self.old.sum.count + R.extra self.old.sum.spot < 2 ^ 64 }
+        ensures sum { self.new.sum ≡ R.rested self.old.sum }
+        ensures items { self.new.items.now ≡ R.rest_items self.old.sum self.old.items.now }
+        ensures same_reference { self.new.items.ghost_name ≡ self.old.items.ghost_name }
+    {
+        if let Spot::Lone(over) = self.sum.spot {
+            self.put(Entry::Leaf(Term::Bare(over)));
         }
     }
-}
 
-// ---- one word
-
-fn rests(token: Token) -> bool
-    ensures { result ≡ R.rests token }
-{
-    match token {
-        Token::Closing => true,
-        Token::Join(_) => true,
-        _ => false,
-    }
-}
-
-fn unread(token: Token) -> bool
-    ensures { result ≡ R.unread token }
-{
-    match token {
-        Token::Unknown => true,
-        _ => false,
-    }
-}
-
-fn refuses(step: Move) -> bool
-    ensures { result ≡ R.refuses step }
-{
-    match step {
-        Move::Refuse => true,
-        _ => false,
-    }
-}
-
-fn is_full(spot: Spot) -> bool
-    ensures { result ≡ R.is_full spot }
-{
-    match spot {
-        Spot::Full => true,
-        _ => false,
-    }
-}
-
-fn closed(end: usize, sum: Sum) -> Scan
-    ensures { result ≡ R.closed end sum }
-{
-    let spot = sum.spot;
-    if is_full(spot) {
-        if sum.depth == 0 {
-            return Scan::Whole(sum.count, sum.deepest);
+    // What a word that can follow does.
+    fn apply(&mut self, step: Move)
+        requires { (self.old.sum.count + 1 < 2 ^ 64) × (self.old.sum.depth + 1 < 2 ^ 64) }
+        ensures sum { self.new.sum ≡ R.moved self.old.sum step }
+        ensures items { self.new.items.now ≡ R.stored self.old.sum step self.old.items.now }
+        ensures same_reference { self.new.items.ghost_name ≡ self.old.items.ghost_name }
+    {
+        match step {
+            Move::Go(spot) => self.sum.spot = spot,
+            Move::Put(entry) => self.put(entry),
+            Move::Open => {
+                self.sum.spot = Spot::Want;
+                self.sum.depth += 1;
+                self.sum.deepest = max(self.sum.deepest, self.sum.depth);
+            }
+            Move::Close => {
+                self.sum.spot = Spot::Full;
+                self.sum.depth = self.sum.depth.saturating_sub(1);
+            }
         }
     }
-    Scan::Unfinished(end)
-}
 
-fn ready(sum: Sum, token: Token, items: &mut [u64]) -> Sum
-    requires { sum.count + R.extra sum.spot < 2 ^ 64 }
-    ensures { (result ≡ R.ready token sum) × (items.new ≡ R.ready_items token sum items.old) }
-{
-    if rests(token) {
-        return rest(sum, items);
+    // The sum and the items as a word meets them.
+    fn ready(&mut self, word: Word)
+        requires { self.old.sum.count + R.extra self.old.sum.spot < 2 ^ 64 }
+        ensures sum { self.new.sum ≡ R.ready word self.old.sum }
+        ensures items { self.new.items.now ≡ R.ready_items word self.old.sum self.old.items.now }
+        ensures same_reference { self.new.items.ghost_name ≡ self.old.items.ghost_name }
+    {
+        if matches!(word, Word::Closing | Word::Join(_)) {
+            self.rest();
+        }
     }
-    sum
-}
 
-fn take_word(sum: Sum, token: Token, items: &mut [u64]) -> Step
-    requires { R.Fits sum (2 ^ 64 - 2) }
-    ensures { (result ≡ R.step_of sum token) × (items.new ≡ R.step_items sum token items.old) }
-{
-    if unread(token) {
-        return Step::Unread;
+    // Takes the word at a place, if it can follow.
+    fn take(&mut self, word: Word, place: usize) -> Result<(), Fault>
+        requires { R.Fits self.old.sum (2 ^ 64 - 2) }
+        ensures result { result ≡ R.taken (R.move self.old.sum word) place }
+        ensures sum { self.new.sum ≡ R.moved_by (R.move self.old.sum word) (R.ready word self.old.sum) }
+        ensures items { self.new.items.now ≡ R.stored_by (R.move self.old.sum word) (R.ready word self.old.sum) (R.ready_items word self.old.sum self.old.items.now) }
+        ensures same_reference { self.new.items.ghost_name ≡ self.old.items.ghost_name }
+    {
+        self.ready(word);
+        let Some(step) = next(self.sum.spot, self.sum.depth, word) else {
+            return Err(Fault {
+                refusal: Refusal::Unfinished,
+                place,
+            });
+        };
+        self.apply(step);
+        Ok(())
     }
-    let here = ready(sum, token, items);
-    let spot = here.spot;
-    let way = next(spot, here.depth, token);
-    if refuses(way) {
-        return Step::Stopped;
+
+    // The line ends at a place.
+    fn close(&mut self, end: usize) -> Result<Size, Fault>
+        requires { self.old.sum.count + R.extra self.old.sum.spot < 2 ^ 64 }
+        ensures result { result ≡ R.closed end (R.rested self.old.sum) }
+        ensures items { self.new.items.now ≡ R.rest_items self.old.sum self.old.items.now }
+        ensures same_reference { self.new.items.ghost_name ≡ self.old.items.ghost_name }
+    {
+        self.rest();
+        let sum = self.sum;
+        if matches!(sum.spot, Spot::Full) && sum.depth == 0 {
+            Ok(Size {
+                records: sum.count,
+                deepest: sum.deepest,
+            })
+        } else {
+            Err(Fault {
+                refusal: Refusal::Unfinished,
+                place: end,
+            })
+        }
     }
-    Step::Done(apply(here, way, items))
 }
 
 // ---- the line
 
-pub fn read_line(line: &[u8], items: &mut [u64]) -> Scan
-    ensures { R.result result items.new ≡ R.scans (length line.now) R.begin items.old (line_words line.now) }
+// A line's size and its first items, or its refusal. It is read on by whole words: the place of each is what a refusal tells.
+pub fn read_line(line: &[u8], items: &mut [Item]) -> Result<Size, Fault>
+    ensures { R.reading result items.new ≡ R.scans (length line.now) R.begin items.old (line_words line.now) }
 {
-    let mut sum = Sum {
+    let sum = Sum {
         spot: Spot::Want,
         depth: 0,
         deepest: 0,
         count: 0,
     };
+    let mut reader = Reader { sum, items };
     let mut at = 0;
     while at < line.len() {
         if line[at] == b' ' {
             at += 1;
-        } else {
-            let end = words::until(line, at, b' ');
-            let token = words::read_word(&line[at..end]);
-            let made = take_word(sum, token, items);
-            match made {
-                Step::Unread => return Scan::Strange(at),
-                Step::Stopped => return Scan::Unfinished(at),
-                Step::Done(next) => {
-                    sum = next;
-                    at = end;
-                }
-            }
+            continue;
         }
+        let end = at + words::until(&line[at..], b' ');
+        let fault = Fault {
+            refusal: Refusal::UnknownWord,
+            place: at,
+        };
+        let word = words::read_word(&line[at..end]).ok_or(fault)?;
+        reader.take(word, at)?;
+        at = end;
     }
-    closed(line.len(), rest(sum, items))
+    reader.close(line.len())
 }

@@ -5,8 +5,12 @@ use mathlib.Core.List.{List, [], ◌∷◌, ◌++◌, append_assoc, append-nil}
 use native.Mathlib.Omega.{arith}
 use native.Mathlib.Numerals.{add-one}
 use lib.ListN.{length, take, drop, get_or, length-append, length-drop, take-append-drop}
-use lib.Seq.{take_at, drop_at, drop-drop, length-take-le, take-suc}
-use Rattle.records.specs.Order.{item_bytes, file_bytes}
+use lib.Seq.{take_at, drop_at, drop-drop, length-take-le, take-suc, take-length}
+use Rattle.typing.specs.declared.Term.TheVariants.{Named, Bare, Hosts, Ports}
+use Rattle.lines.specs.declared.Entry.{Entry}
+use Rattle.lines.specs.declared.Entry.TheVariants.{Not, Both, Leaf}
+use Rattle.lines.specs.declared.Item.{Item}
+use Rattle.records.specs.Order.{entry_bytes, file_bytes}
 
 -- n bytes X written at a place
 pub record Wrote (l : List ℕ) (at n : ℕ) (X m : List ℕ) : Type 0 where
@@ -42,61 +46,46 @@ pub wrote_length : {l m X : List ℕ} {at n : ℕ} → Wrote l at n X m → leng
 wrote_length {l} {m} {X} {at} {n} a =
     omega (arith, ap length a.is, length-append (take at l ++ X) (drop (at + n) l), length-append (take at l) X, length-take-le at l (omega (arith, a.fits)), length-drop (at + n) l, a.long, a.fits)
 
-pub three : (l m k r A B C : List ℕ) (at : ℕ) → length A ≡ 8 → length B ≡ 8 → length C ≡ 8 → at + 24 ≤ length l
-    → m ≡ take at l ++ A ++ drop (at + 8) l → k ≡ take (at + 8) m ++ B ++ drop (at + 8 + 8) m → r ≡ take (at + 16) k ++ C ++ drop (at + 16 + 8) k
-    → r ≡ take at l ++ ((A ++ (B ++ C)) ++ drop (at + 24) l)
-three l m k r A B C at a b c room e f g =
-    both.is ∙ append_assoc (take at l) (A ++ (B ++ C)) (drop (at + 24) l)
-  where
-    first : Wrote l at 8 A m
-    first = record { long = a; fits = omega arith; is = e }
-
-    second : Wrote m (at + 8) 8 B k
-    second = record { long = b; fits = omega (arith, wrote_length first); is = f }
-
-    place : at + 16 ≡ at + 8 + 8
-    place = omega arith
-
-    third : Wrote k (at + 8 + 8) 8 C r
-    third = record { long = c; fits = omega (arith, wrote_length first, wrote_length second); is = rw place at g }
-
-    last : Wrote m (at + 8) 16 (B ++ C) r
-    last = and_then second third (omega (arith, wrote_length first))
-
-    both : Wrote l at 24 (A ++ (B ++ C)) r
-    both = and_then first last (omega arith)
-
 -- ---- all records
 
-pub file_append : (xs ys : List ℕ) → file_bytes (xs ++ ys) ≡ file_bytes xs ++ file_bytes ys
+pub file_append : (xs ys : List Item) → file_bytes (xs ++ ys) ≡ file_bytes xs ++ file_bytes ys
 file_append [] ys = refl
-file_append (x ∷ xs) ys = ap (λ s. item_bytes x ++ s) (file_append xs ys) ∙ sym (append_assoc (item_bytes x) (file_bytes xs) (file_bytes ys))
+file_append (x ∷ xs) ys = ap (λ s. entry_bytes x.entry ++ s) (file_append xs ys) ∙ sym (append_assoc (entry_bytes x.entry) (file_bytes xs) (file_bytes ys))
 
-file_next : (out : List ℕ) (i : ℕ) → i < length out → file_bytes (take (i + 1) out) ≡ file_bytes (take i out) ++ item_bytes (get_or out i 0)
-file_next out i h =
-    rw (add-one i) (ap file_bytes (take-suc out i 0 h) ∙ (file_append (take i out) (get_or out i 0 ∷ []) ∙ ap (λ s. file_bytes (take i out) ++ s) (append-nil (item_bytes (get_or out i 0)))))
+entry_length : (e : Entry) → length (entry_bytes e) ≡ 24
+entry_length Not = refl
+entry_length (Both j) = refl
+entry_length (Leaf (Named n)) = refl
+entry_length (Leaf (Bare t)) = refl
+entry_length (Leaf (Hosts s a)) = refl
+entry_length (Leaf (Ports t s k)) = refl
 
-pub record Filling (tree₀ out tree : List ℕ) (n i : ℕ) : Type 0 where
-  pub most : i ≤ n
-  pub wrote : Wrote tree₀ 8 (24 * i) (file_bytes (take i out)) tree
+file_next : (xs : List Item) (i : ℕ) (d : Item) → i < length xs → file_bytes (take (i + 1) xs) ≡ file_bytes (take i xs) ++ entry_bytes (get_or xs i d).entry
+file_next xs i d h =
+    let x = get_or xs i d in
+    rw (add-one i) (ap file_bytes (take-suc xs i d h) ∙ (file_append (take i xs) (x ∷ []) ∙ ap (λ s. file_bytes (take i xs) ++ s) (append-nil (entry_bytes x.entry))))
 
-pub filling_start : (tree₀ out : List ℕ) (n : ℕ) → 8 + 24 * n ≤ length tree₀ → Filling tree₀ out tree₀ n 0
-filling_start tree₀ out n h = record { most = omega arith; wrote = record { long = refl; fits = omega arith; is = whole } }
+pub record Filling (tree₀ : List ℕ) (xs : List Item) (tree : List ℕ) (i : ℕ) : Type 0 where
+  pub most : i ≤ length xs
+  pub wrote : Wrote tree₀ 8 (24 * i) (file_bytes (take i xs)) tree
+
+pub filling_start : (tree₀ : List ℕ) (xs : List Item) → 8 + 24 * length xs ≤ length tree₀ → Filling tree₀ xs tree₀ 0
+filling_start tree₀ xs h = record { most = omega arith; wrote = record { long = refl; fits = omega arith; is = whole } }
   where
     whole : tree₀ ≡ take 8 tree₀ ++ [] ++ drop (8 + 24 * 0) tree₀
     whole = sym (rw (append-nil (take 8 tree₀)) (take-append-drop 8 tree₀))
 
-pub filling_next : {tree₀ out tree tree' : List ℕ} {n i : ℕ} → Filling tree₀ out tree n i → i < n → n ≤ length out → 8 + 24 * n ≤ length tree₀
-    → tree' ≡ take (8 + 24 * i) tree ++ (item_bytes (get_or out i 0) ++ drop (8 + 24 * i + 24) tree) → Filling tree₀ out tree' n (i + 1)
-filling_next {tree₀} {out} {tree} {tree'} {n} {i} f h k room e =
-    let one : Wrote tree (8 + 24 * i) 24 (item_bytes (get_or out i 0)) tree' = record {
-      long = refl;
-      fits = omega (arith, wrote_length f.wrote);
-      is = e ∙ sym (append_assoc (take (8 + 24 * i) tree) (item_bytes (get_or out i 0)) (drop (8 + 24 * i + 24) tree));
-    } in
+pub filling_next : {tree₀ tree tree' part : List ℕ} {xs : List Item} {i : ℕ} (d : Item) → Filling tree₀ xs tree i → i < length xs → 8 + 24 * length xs ≤ length tree₀
+    → part ≡ entry_bytes (get_or xs i d).entry → tree' ≡ take (8 + 24 * i) tree ++ part ++ drop (8 + 24 * i + length part) tree → Filling tree₀ xs tree' (i + 1)
+filling_next {tree₀} {tree} {tree'} {part} {xs} {i} d f h room p e =
+    let long : length part ≡ 24 = ap length p ∙ entry_length (get_or xs i d).entry in
+    let one : Wrote tree (8 + 24 * i) 24 part tree' = record { long = long; fits = omega (arith, wrote_length f.wrote); is = rw long at e } in
     let two = and_then f.wrote one (omega arith) in
     let size : 24 * i + 24 ≡ 24 * (i + 1) = omega arith in
-    record { most = omega arith; wrote = rw (size, ← file_next out i (omega arith)) at two }
+    record { most = omega arith; wrote = rw (size, p, ← file_next xs i d h) at two }
+
+pub filled : {tree₀ tree : List ℕ} {xs : List Item} {i : ℕ} → Filling tree₀ xs tree i → i ≡ length xs → tree ≡ take 8 tree₀ ++ file_bytes xs ++ drop (8 + 24 * length xs) tree₀
+filled {tree₀} {tree} {xs} f e = rw (e, take-length) at f.wrote.is
 
 pub headed : (l m r H F : List ℕ) (n : ℕ) → length H ≡ 8 → m ≡ take 0 l ++ H ++ drop (0 + 8) l → r ≡ take 8 m ++ F ++ drop (8 + n) m → r ≡ (H ++ F) ++ drop (8 + n) l
 headed l m r H F n h e f = f ∙ ap₂ (λ s t. s ++ F ++ t) front back

@@ -1,89 +1,94 @@
 -- Items as the words come, put into prefix order from the right: a join waits until what stands before it, as far as it is as deep, is done.
-use Rattle.std.specs.Prelude.{ℕ, zero, suc, ◌+◌, ◌/◌, ◌%◌, ◌≤◌, ◌≡◌, List, [], ◌∷◌, ◌++◌, Bool, true, false, cond, ◌||◌, length, get_or, drop, eqb, leb}
-use Rattle.typing.specs.Phrase.{Operand, term, negated, brackets, Phrase, one, two, join_byte}
+use Rattle.std.specs.Prelude.{ℕ, zero, suc, ◌+◌, ◌≤◌, ◌≡◌, List, [], ◌∷◌, ◌++◌, Bool, true, false, get_or, drop, leb}
+use Rattle.typing.specs.Phrase.{Operand, term, negated, brackets, Phrase, one, two, record_bytes, term_record, join_byte, two_bytes}
+use Rattle.lines.specs.declared.Entry.{Entry}
+use Rattle.lines.specs.declared.Entry.TheVariants.{Not, Both, Leaf}
+use Rattle.lines.specs.declared.Item.{Item}
 use Rattle.lines.specs.Reads.{item}
-use Rattle.lines.specs.Items.{term_item}
+use Rattle.records.specs.declared.Order.{Order}
 
-abbrev pub is_join : ℕ → Bool
-is_join x = eqb (x / 256 % 256) 1 || eqb (x / 256 % 256) 2
+abbrev pub is_join : Entry → Bool
+is_join Not = false
+is_join (Both j) = true
+is_join (Leaf t) = false
 
 -- what is done, in its order, and the joins that wait, the last one met first
 pub record Popped : Type 0 where
-  pub finished : List ℕ
-  pub waiting : List ℕ
+  pub finished : List Item
+  pub waiting : List Item
 
-abbrev pub popped : List ℕ → List ℕ → Popped
+abbrev pub popped : List Item → List Item → Popped
 popped d w = record { finished = d; waiting = w }
 
 -- joins at this depth or deeper wait no longer
-unfoldable pub pop_from : ℕ → List ℕ → List ℕ → Popped
+unfoldable pub pop_from : ℕ → List Item → List Item → Popped
 pop_from t d [] = popped d []
-pop_from t d (y ∷ ys) = elim (leb t (y % 256)) [ true ↦ pop_from t (y ∷ d) ys | false ↦ popped d (y ∷ ys) ]
+pop_from t d (y ∷ ys) = elim (leb t y.depth) [ true ↦ pop_from t (y ∷ d) ys | false ↦ popped d (y ∷ ys) ]
 
 abbrev pub pop : ℕ → Popped → Popped
 pop t r = pop_from t r.finished r.waiting
 
-abbrev pub placed : Bool → ℕ → Popped → Popped
+abbrev pub placed : Bool → Item → Popped → Popped
 placed true x r = popped r.finished (x ∷ r.waiting)
 placed false x r = popped (x ∷ r.finished) r.waiting
 
-abbrev pub put : ℕ → Popped → Popped
-put x r = placed (is_join x) x (pop (x % 256 + 1) r)
+abbrev pub put : Item → Popped → Popped
+put x r = placed (is_join x.entry) x (pop (x.depth + 1) r)
 
-unfoldable pub order : List ℕ → List ℕ → Popped
-order tail [] = popped tail []
-order tail (x ∷ xs) = put x (order tail xs)
+unfoldable pub order : List Item → Popped
+order [] = popped [] []
+order (x ∷ xs) = put x (order xs)
+
+abbrev pub arranged : List Item → List Item
+arranged xs = (pop 0 (order xs)).finished
 
 -- the items of a phrase in prefix order
 abbrev mutual
-  pub operand_prefix : ℕ → Operand → List ℕ
-  operand_prefix d (term t) = term_item d t ∷ []
-  operand_prefix d (negated o) = item d 3 0 0 0 ∷ operand_prefix d o
+  pub operand_prefix : ℕ → Operand → List Item
+  operand_prefix d (term t) = item d (Leaf t) ∷ []
+  operand_prefix d (negated o) = item d Not ∷ operand_prefix d o
   operand_prefix d (brackets p) = phrase_prefix (suc d) p
 
-  pub phrase_prefix : ℕ → Phrase → List ℕ
+  pub phrase_prefix : ℕ → Phrase → List Item
   phrase_prefix d (one o) = operand_prefix d o
-  phrase_prefix d (two p j o) = item d (join_byte j) 0 0 0 ∷ (phrase_prefix d p ++ operand_prefix d o)
+  phrase_prefix d (two p j o) = item d (Both j) ∷ (phrase_prefix d p ++ operand_prefix d o)
 
--- ---- in slices: what is done is the end of one, what waits the start of another
+-- ---- in an array: what waits is its start, what is done its end
 
-unfoldable pub pend : List ℕ → ℕ → List ℕ
+-- the first n of a list, the last one first
+unfoldable pub pend : List Item → ℕ → List Item
 pend l zero = []
-pend l (suc n) = get_or l n 0 ∷ pend l n
+pend l (suc n) = get_or l n (item 0 Not) ∷ pend l n
 
-abbrev pub held : List ℕ → List ℕ → ℕ → ℕ → Popped
-held out stack base top = popped (drop (base + top) out) (pend stack top)
+abbrev pub held : Order → Popped
+held o = popped (drop o.from o.items) (pend o.items o.top)
 
-pub record Pops (depth base top : ℕ) (out stack out' : List ℕ) (r : ℕ) : Type 0 where
-  pub fewer : r ≤ top
-  pub same : length out' ≡ length out
-  pub pops : pop depth (held out stack base top) ≡ held out' stack base r
+-- there is room for n items beside those that wait
+pub record Roomy (n : ℕ) (o : Order) : Type 0 where
+  pub room : n + o.top ≤ o.from
+  pub inside : o.from ≤ 128
 
--- with base the place in front of the item's
-pub record Places (x base top : ℕ) (out stack out' stack' : List ℕ) (r : ℕ) : Type 0 where
-  pub most : r ≤ top + 1
-  pub same : length out' ≡ length out
-  pub same_stack : length stack' ≡ length stack
-  pub places : placed (is_join x) x (held out stack (base + 1) top) ≡ held out' stack' base r
+-- what the pops and places leave of that room
+pub record Pops (depth : ℕ) (o p : Order) : Type 0 where
+  pub pops : held p ≡ pop depth (held o)
+  pub same : p.from + o.top ≡ o.from + p.top
+  pub fewer : p.top ≤ o.top
 
-abbrev pub arranged : List ℕ → List ℕ → List ℕ
-arranged tail xs = (pop 0 (order tail xs)).finished
+pub record Places (x : Item) (o p : Order) : Type 0 where
+  pub places : held p ≡ placed (is_join x.entry) x (held o)
+  pub less : p.from + o.top + 1 ≡ o.from + p.top
+  pub most : p.from ≤ o.from
 
 -- ---- an item's record
 
-abbrev pub bytes_of : ℕ → ℕ → ℕ → ℕ → ℕ → List ℕ
-bytes_of k d p a v =
-    k ∷ d ∷ p ∷ 0 ∷ a / 256 % 256 ∷ a % 256 ∷ 0 ∷ 0 ∷ v / 256 / 256 / 256 % 256 ∷ v / 256 / 256 % 256 ∷ v / 256 % 256 ∷ v % 256
-    ∷ 0 ∷ 0 ∷ 0 ∷ 0 ∷ 0 ∷ 0 ∷ 0 ∷ 0 ∷ 0 ∷ 0 ∷ 0 ∷ 0 ∷ []
+abbrev pub entry_bytes : Entry → List ℕ
+entry_bytes Not = record_bytes 3 0 0 0 0
+entry_bytes (Both j) = record_bytes (join_byte j) 0 0 0 0
+entry_bytes (Leaf t) = term_record t
 
-abbrev pub item_bytes : ℕ → List ℕ
-item_bytes x =
-    bytes_of (x / 256 % 256) (x / 65536 % 256) (x / 16777216 % 256)
-    (cond (eqb (x / 256 % 256) 15) (x / 4294967296) 0) (cond (eqb (x / 256 % 256) 15) 0 (x / 4294967296))
-
-abbrev pub file_bytes : List ℕ → List ℕ
+abbrev pub file_bytes : List Item → List ℕ
 file_bytes [] = []
-file_bytes (x ∷ xs) = item_bytes x ++ file_bytes xs
+file_bytes (x ∷ xs) = entry_bytes x.entry ++ file_bytes xs
 
 abbrev pub head_bytes : ℕ → ℕ → List ℕ
-head_bytes link n = 0x50 ∷ 0x46 ∷ 0x54 ∷ 0 ∷ 1 ∷ link ∷ n / 256 ∷ n % 256 ∷ []
+head_bytes link n = 0x50 ∷ 0x46 ∷ 0x54 ∷ 0 ∷ 1 ∷ link ∷ two_bytes n

@@ -1,173 +1,166 @@
 // The items of a typed line put into prefix order and written as a tree file's records.
 #![tactic(auto)]
 
-ghost use Rattle.std.specs.Prelude.{◌≡◌, cond, [], ◌∷◌, ◌++◌, ◌+◌, ◌*◌, ◌≤◌, ◌<◌, length, take, drop, replicate, eqb};
+ghost use Rattle.std.specs.Prelude.{◌≡◌, ◌++◌, ◌+◌, ◌*◌, ◌≤◌, ◌<◌, length, take, drop};
+ghost use Rattle.typing.specs.Phrase as P;
 ghost use Rattle.records.specs.Order as O;
 
-use lines::{DIRECTION_AT, KIND_AT, PROTOCOL_AT, VALUE_AT};
+use lines::{BLANK, Entry, Item};
+use typing::{Side, Term, Transport};
 
-// Kinds of records.
-const AND: u64 = 1;
-
-const OR: u64 = 2;
-
-const PORT: u64 = 15;
+// The most records of a tree file: the array is as long, since the code that C calls has no heap.
+const RECORDS: usize = 128;
 
 // ---- prefix order
 
-fn is_join(x: u64) -> bool
-    ensures { result ≡ O.is_join x }
-{
-    let kind = x / KIND_AT % 256;
-    if kind == AND {
-        return true;
-    }
-    kind == OR
+// The joins that wait, at the start of an array, and what is done, at its end.
+#[derive(Drop)]
+struct Order {
+    items: [Item; RECORDS],
+    top: usize,
+    from: usize,
 }
 
-// Joins that wait at this depth or deeper go before what is done, which starts at base + top. How many wait then.
-fn pop(out: &mut [u64], stack: &[u64], base: usize, top: usize, depth: u64) -> usize
-    requires { (base + top ≤ length out.old) × (top ≤ length stack.now) }
-    ensures { O.Pops depth base top out.old stack.now out.new result }
-{
-    let mut n = top;
-    while n > 0 {
-        let y = stack[n - 1];
-        if y % 256 < depth {
-            return n;
+impl Order {
+    // Joins that wait at this depth or deeper go before what is done.
+    fn pop(&mut self, depth: usize)
+        requires { O.Roomy 0 self.old }
+        ensures { O.Pops depth self.old self.new }
+    {
+        // A pop from a stack in an array: it ends at the first join that is less deep.
+        while self.top > 0 {
+            let join = self.items[self.top - 1];
+            if (join.depth as usize) < depth {
+                return;
+            }
+            self.top -= 1;
+            self.from -= 1;
+            self.items[self.from] = join;
         }
-        n -= 1;
-        out[base + n] = y;
     }
-    n
-}
 
-// An item: a join waits, another is done.
-fn place(out: &mut [u64], stack: &mut [u64], base: usize, top: usize, x: u64) -> usize
-    requires { (base + top < length out.old) × (top < length stack.old) }
-    ensures { O.Places x base top out.old stack.old out.new stack.new result }
-{
-    if is_join(x) {
-        stack[top] = x;
-        return top + 1;
+    // An item: a join waits, another is done.
+    fn place(&mut self, item: Item)
+        requires { O.Roomy 1 self.old }
+        ensures { O.Places item self.old self.new }
+    {
+        match item.entry {
+            Entry::Both(_) => {
+                self.items[self.top] = item;
+                self.top += 1;
+            }
+            Entry::Not | Entry::Leaf(_) => {
+                self.from -= 1;
+                self.items[self.from] = item;
+            }
+        }
     }
-    out[base + top] = x;
-    top
-}
 
-// The first n items in prefix order.
-fn arrange(items: &[u64], n: usize, out: &mut [u64], stack: &mut [u64])
-    requires { (n ≤ length items.now) × (n ≤ length out.old) × (n ≤ length stack.old) }
-    ensures { out.new ≡ O.arranged (drop n out.old) (take n items.now) }
-{
-    let mut i = n;
-    let mut top = 0;
-    while i > 0 {
-        let x = items[i - 1];
-        let left = pop(out, stack, i, top, x % 256 + 1);
-        i -= 1;
-        top = place(out, stack, i, left, x);
+    // All items, from the right.
+    fn arrange(&mut self, items: &[Item])
+        requires { (self.old.from ≡ 128) × (self.old.top ≡ 0) × (length items.now ≤ 128) }
+        ensures { (drop self.new.from self.new.items ≡ O.arranged items.now) × (self.new.from + length items.now ≡ 128) }
+    {
+        let mut left = items;
+        // From the right by a pattern: a proof about a reversed iterator has to speak of the reversed list.
+        while let [before @ .., item] = left {
+            self.pop(item.depth as usize + 1);
+            self.place(*item);
+            left = before;
+        }
+        self.pop(0);
     }
-    pop(out, stack, 0, top, 0);
 }
 
 // ---- the file
 
-// Eight bytes at a place.
-fn put8(tree: &mut [u8], at: usize, a: u8, b: u8, c: u8, d: u8, e: u8, f: u8, g: u8, h: u8)
-    requires { at + 8 ≤ length tree.old }
-    ensures { tree.new ≡ take at tree.old ++ (a ∷ b ∷ c ∷ d ∷ e ∷ f ∷ g ∷ h ∷ []) ++ drop (at + 8) tree.old }
+// A record by its kind, direction, protocol, A and the address's first four bytes.
+fn bytes(kind: u8, direction: u8, protocol: u8, a: u16, address: u32) -> [u8; 24]
+    ensures { result ≡ P.record_bytes kind direction protocol a address }
 {
-    tree[at] = a;
-    tree[at + 1] = b;
-    tree[at + 2] = c;
-    tree[at + 3] = d;
-    tree[at + 4] = e;
-    tree[at + 5] = f;
-    tree[at + 6] = g;
-    tree[at + 7] = h;
+    let [a1, a2] = a.to_be_bytes();
+    let [b1, b2, b3, b4] = address.to_be_bytes();
+    [
+        kind, direction, protocol, 0, a1, a2, 0, 0, b1, b2, b3, b4, 0, 0, 0, 0, 0, 0, 0, 0, 0, 0,
+        0, 0,
+    ]
 }
 
-// The port of an item, or 0.
-fn port_of(kind: u64, value: u64) -> u64
-    ensures { result ≡ cond (eqb kind 15) value 0 }
+// A direction's byte.
+// What this and `protocol` share is the library's `map_or`.
+fn direction(side: Option<Side>) -> u8
+    ensures { result ≡ P.dir_byte side }
 {
-    if kind == PORT { value } else { 0 }
+    side.map_or(0, |side| side as u8)
 }
 
-fn address_of(kind: u64, value: u64) -> u64
-    ensures { result ≡ cond (eqb kind 15) 0 value }
+// A protocol's byte before a port.
+fn protocol(over: Option<Transport>) -> u8
+    ensures { result ≡ P.maybe_byte over }
 {
-    if kind == PORT { 0 } else { value }
+    over.map_or(0, |over| over as u8)
 }
 
-// The record of an item.
-fn write_item(tree: &mut [u8], at: usize, x: u64)
-    requires { at + 24 ≤ length tree.old }
-    ensures { tree.new ≡ take at tree.old ++ (O.item_bytes x ++ drop (at + 24) tree.old) }
-{
-    let kind = x / KIND_AT % 256;
-    let value = x / VALUE_AT;
-    let p = port_of(kind, value);
-    let v = address_of(kind, value);
-    put8(
-        tree,
-        at,
-        kind as u8,
-        (x / DIRECTION_AT % 256) as u8,
-        (x / PROTOCOL_AT % 256) as u8,
-        0,
-        (p / 256 % 256) as u8,
-        (p % 256) as u8,
-        0,
-        0,
-    );
-    put8(
-        tree,
-        at + 8,
-        (v / 256 / 256 / 256 % 256) as u8,
-        (v / 256 / 256 % 256) as u8,
-        (v / 256 % 256) as u8,
-        (v % 256) as u8,
-        0,
-        0,
-        0,
-        0,
-    );
-    put8(tree, at + 16, 0, 0, 0, 0, 0, 0, 0, 0);
-}
+// Kinds of records: these four bytes are all that a typed line writes, so they are no enum.
+const NOT: u8 = 3;
 
-// The records of the first n items, behind the header.
-fn write_items(tree: &mut [u8], out: &[u64], n: usize)
-    requires { (n ≤ 128) × (n ≤ length out.now) × (8 + 24 * n ≤ length tree.old) }
-    ensures { tree.new ≡ take 8 tree.old ++ O.file_bytes (take n out.now) ++ drop (8 + 24 * n) tree.old }
+const PROTOCOL: u8 = 10;
+
+const HOST: u8 = 11;
+
+const PORT: u8 = 15;
+
+// The record of what an item stands for.
+fn record_of(entry: Entry) -> [u8; 24]
+    ensures { result ≡ O.entry_bytes entry }
 {
-    let mut i = 0;
-    while i < n {
-        write_item(tree, 8 + 24 * i, out[i]);
-        i += 1;
+    match entry {
+        Entry::Not => bytes(NOT, 0, 0, 0, 0),
+        Entry::Both(join) => bytes(join as u8, 0, 0, 0, 0),
+        Entry::Leaf(Term::Named(name)) => bytes(PROTOCOL, 0, name as u8, 0, 0),
+        Entry::Leaf(Term::Bare(over)) => bytes(PROTOCOL, 0, over as u8, 0, 0),
+        Entry::Leaf(Term::Hosts(side, address)) => bytes(HOST, direction(side), 0, 0, address),
+        Entry::Leaf(Term::Ports(over, side, port)) => bytes(
+            PORT,
+            direction(side),
+            protocol(over),
+            port,
+            0,
+        ),
     }
 }
 
-// The header and the records of n items.
-pub fn write_file(tree: &mut [u8], link: u8, items: &[u64], n: usize)
-    requires { (n ≤ 128) × (n ≤ length items.now) × (8 + 24 * n ≤ length tree.old) }
-    ensures { tree.new ≡ (O.head_bytes link n ++ O.file_bytes (take n (O.arranged (drop n (replicate 128 0)) (take n items.now)))) ++ drop (8 + 24 * n) tree.old }
+// Bytes at a place.
+fn put(tree: &mut [u8], at: usize, part: &[u8])
+    requires { at + length part.now ≤ length tree.old }
+    ensures { tree.new ≡ take at tree.old ++ part.now ++ drop (at + length part.now) tree.old }
 {
-    let mut out = [0u64; 128];
-    let mut stack = [0u64; 128];
-    arrange(items, n, &mut out, &mut stack);
-    put8(
-        tree,
-        0,
-        0x50,
-        0x46,
-        0x54,
-        0,
-        1,
-        link,
-        (n / 256) as u8,
-        (n % 256) as u8,
-    );
-    write_items(tree, &out, n);
+    tree[at..at + part.len()].copy_from_slice(part);
+}
+
+// The records of items, behind the header.
+fn write_items(tree: &mut [u8], items: &[Item])
+    requires { (length items.now ≤ 128) × (8 + 24 * length items.now ≤ length tree.old) }
+    ensures { tree.new ≡ take 8 tree.old ++ O.file_bytes items.now ++ drop (8 + 24 * length items.now) tree.old }
+{
+    for (i, item) in items.iter().enumerate() {
+        put(tree, 8 + 24 * i, &record_of(item.entry));
+    }
+}
+
+// The header and the records of items, in prefix order.
+// The link byte as it was typed: it is written as it stands, once `link_type` knows it.
+pub fn write_file(tree: &mut [u8], link: u8, items: &[Item])
+    requires { (length items.now ≤ 128) × (8 + 24 * length items.now ≤ length tree.old) }
+    ensures { tree.new ≡ (O.head_bytes link (length items.now) ++ O.file_bytes (O.arranged items.now)) ++ drop (8 + 24 * length items.now) tree.old }
+{
+    let mut order = Order {
+        items: [BLANK; RECORDS],
+        top: 0,
+        from: RECORDS,
+    };
+    order.arrange(items);
+    let [n1, n2] = (items.len() as u16).to_be_bytes();
+    put(tree, 0, &[0x50, 0x46, 0x54, 0, 1, link, n1, n2]);
+    write_items(tree, &order.items[order.from..]);
 }

@@ -1,69 +1,57 @@
 -- What the code's reading of a line says of the definition's answer.
+use Rattle.std.specs.Prelude.{Result}
+use Rattle.typing.specs.declared.Fault.{Fault}
+use Rattle.typing.specs.Typed.{fault}
+use Rattle.std.specs.Prelude.{Ok, Err}
 use Prim.Native.Nat.{ℕ, zero, suc, ◌+◌, ◌*◌, ◌-◌, ◌≤◌, ◌<◌}
 use mathlib.Core.Path.{◌≡◌, refl, sym, ap, ap₂, ◌∙◌}
 use mathlib.Core.List.{List, ◌++◌}
 use mathlib.Core.Bool.{Bool, true, false, cond}
 use native.Mathlib.Omega.{arith}
-use lib.ListN.{length, length-append, take, drop, replicate}
-use lib.Seq.{take_at}
-use borrow.Author.Tests.{lt-leb, le-leb}
-use Rattle.error.specs.Answer.{refused, done}
-use Rattle.error.specs.declared.Refusal.{Refusal}
+use lib.ListN.{length, length-append, take, drop}
 use Rattle.error.specs.declared.Refusal.TheVariants.{StrangeFile, UnknownWord, Unfinished, TooLarge}
 use Rattle.ast.specs.declared.LinkType.{LinkType}
 use Rattle.ast.specs.File.{link_of}
 use Rattle.typing.specs.Words.{line_words}
 use Rattle.typing.specs.Phrase.{Operand, term, negated, brackets, Phrase, one, two, operand_records, record_count, depth, Within, file_of, zeros}
-use Rattle.typing.specs.Finds.{Found, phrase, unknown, unfinished, Finds}
+use Rattle.typing.specs.Finds.{Found, phrase, unknown, unfinished}
 use Rattle.typing.specs.Parse.{start, scan}
-use Rattle.typing.specs.declared.TypeResult.{TypeResult}
-use Rattle.typing.specs.declared.TypeResult.TheVariants.{Length, Refused}
-use Rattle.typing.specs.Typed.{Typed, placed, rejected, within, sized, typed}
-use Rattle.typing.proofs.Answers.{never, found-words, typed-found, true-within}
+use Rattle.error.specs.Answer.{Out}
+use Rattle.typing.specs.Typed.{Typed, placed, rejected, within, sized, linked, typed}
+use Rattle.typing.proofs.Answers.{never, true-within}
 use Rattle.typing.proofs.Passes.{file_length}
-use Rattle.lines.specs.declared.Scan.TheVariants as S
-use Rattle.lines.specs.Reads.{Result, result, scans, begin}
+use Rattle.lines.specs.declared.Item.{Item}
+use Rattle.lines.specs.declared.Size.{Size}
+use Rattle.lines.specs.Reads.{Reading, reading, size, scans, begin}
 use Rattle.lines.specs.Items.{phrase_items}
-use Rattle.records.specs.Order.{operand_prefix, phrase_prefix, file_bytes, head_bytes, arranged}
-use Rattle.lines.specs.declared.Scan.{Scan}
+use Rattle.records.specs.Order.{operand_prefix, phrase_prefix, file_bytes, head_bytes}
 use Rattle.lines.proofs.Simulates.{written, Follows}
-use Rattle.records.proofs.Records.{SmallPhrase, phrase_bytes_lem}
+use Rattle.records.proofs.Records.{phrase_bytes_lem}
 use Rattle.type_line.specs.Filed as F
-use Rattle.type_line.proofs.Ranges.{in_range}
-use Rattle.type_line.proofs.Whole.{phrase_count, in_order, reads_line}
-
--- ---- the phrase of a line is small
-
-small_found : (end : ℕ) (line : List ℕ) (p : Phrase) (f : Found) → Finds end (line_words line) f → f ≡ phrase p → SmallPhrase p
-small_found end line p f h e = let k = found-words f h e in in_range line k.0 p k.1 k.2
+use Rattle.type_line.proofs.Whole.{phrase_count, first_items, in_order, reads_line}
 
 -- ---- what was found
 
-module _ (l₀ : List ℕ) where
-  found_strange : (f : Found) (r : Result) (k : ℕ) → Follows l₀ f r → r.scan ≡ S.Strange k → f ≡ unknown k
-  found_strange (phrase p) r k h e = never (let z = ap (λ x. x.scan) h in cc)
-  found_strange (unknown j) r k h e = cc
-  found_strange (unfinished j) r k h e = never cc
+module _ (l₀ : List Item) where
+  -- a refusal of the reading is the definition's
+  found_fault : (link : ℕ) (f : Found) (r : Reading) (e : Fault) → Follows l₀ f r → r.answer ≡ Err e → sized link f ≡ rejected e.refusal e.place
+  found_fault link (phrase p) r e h k = never (let z = ap (λ x. x.answer) h in cc)
+  found_fault link (unknown j) r e h k = let z : fault UnknownWord j ≡ e = cc in ap (λ x. rejected x.refusal x.place) z
+  found_fault link (unfinished j) r e h k = let z : fault Unfinished j ≡ e = cc in ap (λ x. rejected x.refusal x.place) z
 
-  found_unfinished : (f : Found) (r : Result) (k : ℕ) → Follows l₀ f r → r.scan ≡ S.Unfinished k → f ≡ unfinished k
-  found_unfinished (phrase p) r k h e = never (let z = ap (λ x. x.scan) h in cc)
-  found_unfinished (unknown j) r k h e = never cc
-  found_unfinished (unfinished j) r k h e = cc
-
-  record IsPhrase (f : Found) (r : Result) (n m : ℕ) : Type 0 where
+  record IsPhrase (f : Found) (r : Reading) (z : Size) : Type 0 where
     the_phrase : Phrase
     is : f ≡ phrase the_phrase
-    counts : n ≡ record_count the_phrase
-    deep : m ≡ depth the_phrase
+    counts : z.records ≡ record_count the_phrase
+    deep : z.deepest ≡ depth the_phrase
     items : r.items ≡ written l₀ (phrase_items 0 the_phrase)
 
-  found_whole : (f : Found) (r : Result) (n m : ℕ) → Follows l₀ f r → r.scan ≡ S.Whole n m → IsPhrase f r n m
-  found_whole (phrase p) r n m h e =
-      let z = ap (λ x. x.scan) h in
-      let a : n ≡ length (phrase_items 0 p) = cc in
-      record { the_phrase = p; is = refl; counts = a ∙ phrase_count 0 p; deep = cc; items = ap (λ x. x.items) h }
-  found_whole (unknown j) r n m h e = never cc
-  found_whole (unfinished j) r n m h e = never cc
+  found_whole : (f : Found) (r : Reading) (z : Size) → Follows l₀ f r → r.answer ≡ Ok z → IsPhrase f r z
+  found_whole (phrase p) r z h e =
+      let k : size (length (phrase_items 0 p)) (depth p) ≡ z = (let y = ap (λ x. x.answer) h in cc) in
+      record { the_phrase = p; is = refl; counts = sym (ap (λ (x : Size). x.records) k) ∙ phrase_count 0 p; deep = sym (ap (λ (x : Size). x.deepest) k); items = ap (λ x. x.items) h }
+  found_whole (unknown j) r z h e = never cc
+  found_whole (unfinished j) r z h e = never cc
 
 -- ---- the bytes
 
@@ -83,48 +71,35 @@ drop_zeros (suc k) zero = let e : 0 ≡ 0 - suc k = omega arith in ap (λ (i : �
 drop_zeros (suc k) (suc m) = let e : m - k ≡ suc m - suc k = omega arith in drop_zeros k m ∙ ap (λ (i : ℕ). zeros i) e
 
 -- the file that the code writes is the phrase's
-file_written : (link : ℕ) (l₀ items : List ℕ) (p : Phrase) → SmallPhrase p → Within p → length l₀ ≡ 128 → items ≡ written l₀ (phrase_items 0 p)
-    → F.written link (record_count p) items ≡ file_of link p
-file_written link l₀ items p small fits len these =
-    ap (λ s. head_bytes link (record_count p) ++ s)
-    (ap (λ s. file_bytes (take (record_count p) (arranged tail (take (record_count p) s)))) these
-    ∙ (ap (λ s. file_bytes (take (record_count p) s)) (in_order l₀ tail p (omega (arith, fits.few)) fits.flat)
-    ∙ (ap file_bytes (take_at (phrase_prefix 0 p) tail (record_count p) (prefix_count 0 p)) ∙ phrase_bytes_lem p 0 small)))
+file_written : (link : ℕ) (l₀ items : List Item) (p : Phrase) → Within p → length l₀ ≡ 128 → items ≡ written l₀ (phrase_items 0 p)
+    → F.written link (take (record_count p) items) ≡ file_of link p
+file_written link l₀ items p fits len these =
+    ap (λ x. F.written link (take (record_count p) x)) these
+    ∙ (ap₂ (λ (n : ℕ) x. head_bytes link n ++ file_bytes x) (ap length (first_items l₀ p room) ∙ phrase_count 0 p) (in_order l₀ p room fits.flat)
+    ∙ ap (λ s. head_bytes link (record_count p) ++ s) (phrase_bytes_lem p 0))
   where
-    tail : List ℕ
-    tail = drop (record_count p) (replicate 128 0)
+    room : record_count p ≤ length l₀
+    room = omega (arith, fits.few)
 
--- ---- the answers
+-- ---- the links
 
-pub link_low : (link : ℕ) → link < 1 → link_of link ≡ refused StrangeFile
+pub link_low : (link : ℕ) → link < 1 → link_of link ≡ Err StrangeFile
 link_low zero h = refl
 link_low (suc n) h = absurd (omega arith)
 
-pub link_high : (link : ℕ) → 3 < link → link_of link ≡ refused StrangeFile
+pub link_high : (link : ℕ) → 3 < link → link_of link ≡ Err StrangeFile
 link_high zero h = absurd (omega arith)
 link_high (suc zero) h = absurd (omega arith)
 link_high (suc (suc zero)) h = absurd (omega arith)
 link_high (suc (suc (suc zero))) h = absurd (omega arith)
 link_high (suc (suc (suc (suc n)))) h = refl
 
-pub link_good : (link : ℕ) → 1 ≤ link → link ≤ 3 → (l : LinkType) × (link_of link ≡ done l)
+pub link_good : (link : ℕ) → 1 ≤ link → link ≤ 3 → (l : LinkType) × (link_of link ≡ Ok l)
 link_good zero h k = absurd (omega arith)
 link_good (suc zero) h k = (_, refl)
 link_good (suc (suc zero)) h k = (_, refl)
 link_good (suc (suc (suc zero))) h k = (_, refl)
 link_good (suc (suc (suc (suc n)))) h k = absurd (omega arith)
-
--- ---- a whole line
-
-module _ (link n deepest : ℕ) (items tree : List ℕ) where
-  pub filed_many : 128 < n → F.filed link n deepest items tree ≡ F.kept tree
-  filed_many h = rw (lt-leb n 128 h)
-
-  pub filed_deep : n ≤ 128 → 128 < deepest → F.filed link n deepest items tree ≡ F.kept tree
-  filed_deep h k = rw (le-leb n 128 h, lt-leb deepest 128 k)
-
-  pub filed_made : n ≤ 128 → deepest ≤ 128 → F.filed link n deepest items tree ≡ F.made link n items tree
-  filed_made h k = rw (le-leb n 128 h, le-leb deepest 128 k)
 
 -- ---- what the definition answers
 
@@ -132,61 +107,68 @@ module _ (link n deepest : ℕ) (items tree : List ℕ) where
 pub leaves : {t u : Typed} → t ≡ u → (u.answer ≡ t.answer) × (u.tree ≡ t.tree)
 leaves e = (sym (ap (λ x. x.answer) e), sym (ap (λ x. x.tree) e))
 
--- a refusal after the tree was cleared
-pub cleared : {t : Typed} {r : Refusal} {k n : ℕ} {s : List ℕ} → t ≡ rejected r k → s ≡ replicate n 0 → n ≡ 3080 → (Refused r k ≡ t.answer) × (s ≡ t.tree)
-cleared e h z = ((leaves e).0, h ∙ (ap (λ (n : ℕ). zeros n) z ∙ (leaves e).1))
-
-pub typed_link : (link : ℕ) (line : List ℕ) → link_of link ≡ refused StrangeFile → typed link line ≡ rejected StrangeFile 0
+pub typed_link : (link : ℕ) (line : List ℕ) → link_of link ≡ Err StrangeFile → typed link line ≡ rejected StrangeFile 0
 unfolding typed
 typed_link link line e = rw e
 
-typed_as : (link : ℕ) (line : List ℕ) (f : Found) → (l : LinkType) × (link_of link ≡ done l) → scan (length line) start (line_words line) ≡ f → typed link line ≡ sized link f
+-- a link byte that is refused, and one that is not
+pub typed_strange : (link : ℕ) (line : List ℕ) (e : Fault) → F.placeless (link_of link) ≡ Err e → typed link line ≡ rejected e.refusal e.place
+unfolding typed
+typed_strange link line e h = by (link_of link) h
+  where
+    by : (o : Out LinkType) → F.placeless o ≡ Err e → linked o (sized link (scan (length line) start (line_words line))) ≡ rejected e.refusal e.place
+    by (Ok l) h = never cc
+    by (Err r) h = let z : fault r 0 ≡ e = cc in ap (λ x. rejected x.refusal x.place) z
+
+pub link_known : (link : ℕ) (l : LinkType) → F.placeless (link_of link) ≡ Ok l → (l : LinkType) × (link_of link ≡ Ok l)
+link_known link l h = by (link_of link) refl h
+  where
+    by : (o : Out LinkType) → link_of link ≡ o → F.placeless o ≡ Ok l → (l : LinkType) × (link_of link ≡ Ok l)
+    by (Ok k) e h = (k, e)
+    by (Err r) e h = never cc
+
+typed_as : (link : ℕ) (line : List ℕ) (f : Found) → (l : LinkType) × (link_of link ≡ Ok l) → scan (length line) start (line_words line) ≡ f → typed link line ≡ sized link f
 unfolding typed
 typed_as link line f l e = rw (l.1, e)
 
 -- a file's answer and its bytes, by its records
-placed_as : (link : ℕ) (l₀ items : List ℕ) (p : Phrase) → SmallPhrase p → Within p → length l₀ ≡ 128 → items ≡ written l₀ (phrase_items 0 p)
+placed_as : (link : ℕ) (l₀ items : List Item) (p : Phrase) → Within p → length l₀ ≡ 128 → items ≡ written l₀ (phrase_items 0 p)
     → placed (file_of link p) ≡ F.made link (record_count p) items (zeros 3080)
-placed_as link l₀ items p small fits len these =
-    ap₂ (λ (n : ℕ) (s : List ℕ). as_typed (Length n) s) (file_length link p)
-    (ap₂ (λ (s : List ℕ) (n : ℕ). s ++ zeros (3080 - n)) (sym (file_written link l₀ items p small fits len these)) (file_length link p)
-    ∙ ap (λ s. F.written link (record_count p) items ++ s) (sym (drop_zeros (8 + 24 * record_count p) 3080)))
+placed_as link l₀ items p fits len these =
+    ap₂ (λ (n : ℕ) (s : List ℕ). as_typed (Ok n) s) (file_length link p)
+    (ap₂ (λ (s : List ℕ) (n : ℕ). s ++ zeros (3080 - n)) (sym (file_written link l₀ items p fits len these)) (file_length link p)
+    ∙ ap (λ s. F.written link (take (record_count p) items) ++ s) (sym (drop_zeros (8 + 24 * record_count p) 3080)))
   where
-    as_typed : TypeResult → List ℕ → Typed
+    as_typed : Result ℕ Fault → List ℕ → Typed
     as_typed a s = record { answer = a; tree = s }
 
-module _ (link : ℕ) (line l₀ items : List ℕ) (good : (l : LinkType) × (link_of link ≡ done l)) (r : Scan) (read : result r items ≡ scans (length line) begin l₀ (line_words line)) where
-  seen : (scans (length line) begin l₀ (line_words line)).scan ≡ r
-  seen = ap (λ x. x.scan) (sym read)
+module _ (link : ℕ) (line : List ℕ) (l₀ items : List Item) (good : (l : LinkType) × (link_of link ≡ Ok l)) (r : Result Size Fault)
+    (read : reading r items ≡ scans (length line) begin l₀ (line_words line)) where
+  seen : (scans (length line) begin l₀ (line_words line)).answer ≡ r
+  seen = ap (λ x. x.answer) (sym read)
 
   follows : Follows l₀ (scan (length line) start (line_words line)) (scans (length line) begin l₀ (line_words line))
   follows = reads_line l₀ (length line) (line_words line)
 
-  pub typed_unknown : (k : ℕ) → r ≡ S.Strange k → typed link line ≡ rejected UnknownWord k
-  typed_unknown k e = typed_as link line (unknown k) good (found_strange l₀ _ _ k follows (seen ∙ e))
+  pub typed_fault : (e : Fault) → r ≡ Err e → typed link line ≡ rejected e.refusal e.place
+  typed_fault e h = typed_as link line _ good refl ∙ found_fault l₀ link _ _ e follows (seen ∙ h)
 
-  pub typed_unfinished : (k : ℕ) → r ≡ S.Unfinished k → typed link line ≡ rejected Unfinished k
-  typed_unfinished k e = typed_as link line (unfinished k) good (found_unfinished l₀ _ _ k follows (seen ∙ e))
-
-  pub typed_whole : (n deepest : ℕ) → r ≡ S.Whole n deepest → length l₀ ≡ 128 → typed link line ≡ F.filed link n deepest items (zeros 3080)
-  typed_whole n deepest e len = typed_as link line (phrase p) good q.is ∙ by (within p) refl
+  pub typed_whole : (z : Size) → r ≡ Ok z → length l₀ ≡ 128 → typed link line ≡ F.filed link z items (zeros 3080)
+  typed_whole z e len = typed_as link line (phrase p) good q.is ∙ by (within p) refl
     where
-      q : IsPhrase l₀ (scan (length line) start (line_words line)) (scans (length line) begin l₀ (line_words line)) n deepest
-      q = found_whole l₀ _ _ n deepest follows (seen ∙ e)
+      q : IsPhrase l₀ (scan (length line) start (line_words line)) (scans (length line) begin l₀ (line_words line)) z
+      q = found_whole l₀ _ _ z follows (seen ∙ e)
 
       p : Phrase
       p = q.the_phrase
 
-      same : F.filed link n deepest items (zeros 3080) ≡ cond (within p) (F.made link (record_count p) items (zeros 3080)) (F.kept (zeros 3080))
-      same = ap₂ (λ (a b : ℕ). F.filed link a b items (zeros 3080)) q.counts q.deep
+      same : F.filed link z items (zeros 3080) ≡ cond (within p) (F.made link (record_count p) items (zeros 3080)) (F.kept (zeros 3080))
+      same = ap₂ (λ (a b : ℕ). F.filed link (size a b) items (zeros 3080)) q.counts q.deep
 
-      small : SmallPhrase p
-      small = small_found (length line) line p _ (typed-found link line) q.is
-
-      by : (b : Bool) → within p ≡ b → sized link (phrase p) ≡ F.filed link n deepest items (zeros 3080)
+      by : (b : Bool) → within p ≡ b → sized link (phrase p) ≡ F.filed link z items (zeros 3080)
       by true h =
           ap (λ b. cond b (placed (file_of link p)) (rejected TooLarge 0)) h
-          ∙ (placed_as link l₀ items p small (true-within p h) len (ap (λ x. x.items) read ∙ q.items)
+          ∙ (placed_as link l₀ items p (true-within p h) len (ap (λ x. x.items) read ∙ q.items)
           ∙ sym (same ∙ ap (λ b. cond b (F.made link (record_count p) items (zeros 3080)) (F.kept (zeros 3080))) h))
       by false h =
           ap (λ b. cond b (placed (file_of link p)) (rejected TooLarge 0)) h

@@ -1,4 +1,7 @@
 -- What T-04 says of a typed line holds of every link byte and line.
+use Rattle.typing.specs.Typed.{fault}
+use Rattle.std.specs.Prelude.{Result, Ok, Err}
+use Rattle.typing.specs.declared.Fault.{Fault}
 use Prim.Native.Nat.{ℕ, ◌+◌, ◌/◌, ◌%◌, ◌≤◌, ◌<◌}
 use mathlib.Core.Path.{◌≡◌, refl, sym, ap, ◌∙◌}
 use mathlib.Core.List.{List, [], ◌∷◌}
@@ -10,7 +13,7 @@ use lib.Seq.{take-length}
 use borrow.Author.Tests.{le-ltb}
 use Rattle.error.specs.declared.Refusal.{Refusal}
 use Rattle.error.specs.declared.Refusal.TheVariants.{StrangeFile, ShortBuffer, UnknownWord, Unfinished, TooLarge}
-use Rattle.error.specs.Answer.{Out, refused, done, Numbered}
+use Rattle.error.specs.Answer.{Out, Numbered}
 use Rattle.error.proofs.All.{Turned}
 use Rattle.error.proofs.Among.{numbered_more}
 use Rattle.bpf.specs.Bytes.{AreBytes}
@@ -19,16 +22,13 @@ use Rattle.bpf.specs.declared.Insn.{Insn}
 use Rattle.ast.specs.declared.LinkType.{LinkType}
 use Rattle.ast.specs.File.{link_of, header}
 use Rattle.ast.proofs.Proper.{Byte, each_bytes}
-use Rattle.direct.specs.declared.DirectResult.TheVariants.{Is}
 use Rattle.direct.specs.Reading.{network_start}
 use Rattle.codegen.proofs.Refusals.{late, compile_turned}
-use Rattle.build.specs.declared.BuildResult.TheVariants as R
 use Rattle.build.specs.Build as Build
 use Rattle.build.specs.Build.{into, too_short, program, build}
 use Rattle.build.specs.Demands as B
 use Rattle.build.specs.Demands.{Answers, program_of, Frame, ReadsPast}
 use Rattle.build.proofs.Demands.{demands}
-use Rattle.typing.specs.declared.TypeResult.TheVariants.{Length, Refused}
 use Rattle.typing.specs.Words.{line_words}
 use Rattle.typing.specs.Phrase.{Phrase, phrase_bytes, record_count, Within, says, tree_of, file_of}
 use Rattle.typing.specs.Finds.{Found, phrase, unknown, unfinished, Finds, whole}
@@ -38,10 +38,8 @@ use Rattle.typing.proofs.Answers.{never, found-words, typed-of, typed-found, one
 use Rattle.typing.proofs.Passes.{file_length, file_header_lem, passes, file_says}
 use Rattle.typing.proofs.Spaces.{space_parts, one_word}
 use Rattle.typing.proofs.Numerals as N
-use Rattle.records.specs.Order.{file_bytes, phrase_prefix}
-use Rattle.records.proofs.Records.{phrase_bytes_lem}
 use Rattle.type_line.specs.Types.{Calls, Kept, Says, Allows, Refuses, Spaced, Numerals, Decided, Gives, Typing, Types}
-use Rattle.type_line.proofs.Ranges.{in_range}
+use Rattle.type_line.proofs.Ranges.{in_range, phrase_are}
 use Rattle.type_line.proofs.Top.{link_low, link_high, link_good, typed_link}
 
 pub spaced : Spaced
@@ -57,63 +55,63 @@ numerals = record { addresses = N.addresses; ports = N.port_numbers_lem; unknown
 
 -- ---- the bytes of a file are bytes
 
-byte : (n : ℕ) → n % 256 < 256
-byte n = omega arith
-
-none : 0 < 256
-none = omega arith
-
-items_are : (xs : List ℕ) → Each Byte (file_bytes xs)
-items_are [] = tt
-items_are (x ∷ xs) = (byte _, (byte _, (byte _, (none, (byte _, (byte _, (none, (none, (byte _, (byte _, (byte _, (byte _, (none, (none, (none, (none, (none, (none, (none, (none, (none, (none, (none, (none, items_are xs))))))))))))))))))))))))
-
 file_are : (link : ℕ) (line : List ℕ) (p : Phrase) → link ≤ 3 → Allows line p → AreBytes (file_of link p)
-file_are link line p h a = each_bytes (file_of link p) (omega arith, (omega arith, (omega arith, (omega arith, (omega arith, (omega arith, (low, (byte (record_count p), records))))))))
+file_are link line p h a = each_bytes (file_of link p) (omega arith, (omega arith, (omega arith, (omega arith, (omega arith, (omega arith, (low, (high, records))))))))
   where
     low : record_count p / 256 < 256
     low = let few = a.1.few in omega arith
 
+    high : record_count p % 256 < 256
+    high = omega arith
+
     records : Each Byte (phrase_bytes p)
-    records = rw (phrase_bytes_lem p 0 (in_range line a.0.the_words p a.0.known a.0.said)) at (items_are (phrase_prefix 0 p))
+    records = phrase_are p (in_range line a.0.the_words p a.0.known a.0.said)
 
 -- ---- what was found, by the answer
 
+-- two refusals that are one have one number and one place
+same_fault : {r s : Refusal} {i j : ℕ} → ◌≡◌ {A = Result ℕ Fault} (Err (fault r i)) (Err (fault s j)) → fault r i ≡ fault s j
+same_fault e = cc
+
+same_refusal : {r s : Refusal} {i j : ℕ} → ◌≡◌ {A = Result ℕ Fault} (Err (fault r i)) (Err (fault s j)) → r ≡ s
+same_refusal e = ap (λ (f : Fault). f.refusal) (same_fault e)
+
 module _ (link : ℕ) (k : ℕ) where
-  is_unknown : (f : Found) → (sized link f).answer ≡ Refused UnknownWord k → f ≡ unknown k
-  is_unknown (unknown j) e = cc
-  is_unknown (unfinished j) e = never cc
+  is_unknown : (f : Found) → (sized link f).answer ≡ Err (fault UnknownWord k) → f ≡ unknown k
+  is_unknown (unknown j) e = ap (λ (f : Fault). unknown f.place) (same_fault e)
+  is_unknown (unfinished j) e = never (let z = same_refusal e in cc)
   is_unknown (phrase p) e = by (within p) e
     where
-      by : (b : Bool) → (cond b (placed (file_of link p)) (rejected TooLarge 0)).answer ≡ Refused UnknownWord k → phrase p ≡ unknown k
+      by : (b : Bool) → (cond b (placed (file_of link p)) (rejected TooLarge 0)).answer ≡ Err (fault UnknownWord k) → phrase p ≡ unknown k
       by true h = never cc
-      by false h = never cc
+      by false h = never (let z = same_refusal h in cc)
 
-  is_unfinished : (f : Found) → (sized link f).answer ≡ Refused Unfinished k → f ≡ unfinished k
-  is_unfinished (unknown j) e = never cc
-  is_unfinished (unfinished j) e = cc
+  is_unfinished : (f : Found) → (sized link f).answer ≡ Err (fault Unfinished k) → f ≡ unfinished k
+  is_unfinished (unknown j) e = never (let z = same_refusal e in cc)
+  is_unfinished (unfinished j) e = ap (λ (f : Fault). unfinished f.place) (same_fault e)
   is_unfinished (phrase p) e = by (within p) e
     where
-      by : (b : Bool) → (cond b (placed (file_of link p)) (rejected TooLarge 0)).answer ≡ Refused Unfinished k → phrase p ≡ unfinished k
+      by : (b : Bool) → (cond b (placed (file_of link p)) (rejected TooLarge 0)).answer ≡ Err (fault Unfinished k) → phrase p ≡ unfinished k
       by true h = never cc
-      by false h = never cc
+      by false h = never (let z = same_refusal h in cc)
 
 -- a file, or 18, is the answer to a whole phrase
 module _ (link : ℕ) where
   abbrev Phrased : Found → Type 0
   Phrased f = (p : Phrase) × (f ≡ phrase p) × Within p
 
-  is_file : (n : ℕ) (f : Found) → (sized link f).answer ≡ Length n → Phrased f
+  is_file : (n : ℕ) (f : Found) → (sized link f).answer ≡ Ok n → Phrased f
   is_file n (unknown j) e = never cc
   is_file n (unfinished j) e = never cc
   is_file n (phrase p) e = by (within p) refl e
     where
-      by : (b : Bool) → within p ≡ b → (cond b (placed (file_of link p)) (rejected TooLarge 0)).answer ≡ Length n → Phrased (phrase p)
+      by : (b : Bool) → within p ≡ b → (cond b (placed (file_of link p)) (rejected TooLarge 0)).answer ≡ Ok n → Phrased (phrase p)
       by true w h = (p, refl, true-within p w)
       by false w h = never cc
 
-  is_large : (f : Found) → (sized link f).answer ≡ Refused TooLarge 0 → (p : Phrase) × (f ≡ phrase p) × (¬ Within p)
-  is_large (unknown j) e = never cc
-  is_large (unfinished j) e = never cc
+  is_large : (f : Found) → (sized link f).answer ≡ Err (fault TooLarge 0) → (p : Phrase) × (f ≡ phrase p) × (¬ Within p)
+  is_large (unknown j) e = never (let z = same_refusal e in cc)
+  is_large (unfinished j) e = never (let z = same_refusal e in cc)
   is_large (phrase p) e = (p, refl, λ w. never (let z = within-true p w in let y = ap (λ b. (cond b (placed (file_of link p)) (rejected TooLarge 0)).answer) (sym z) ∙ e in cc))
 
 within_false : (p : Phrase) → (¬ Within p) → within p ≡ false
@@ -131,20 +129,20 @@ found_says line p f h e = let k = found-words f h e in record { the_words = k.0;
 
 -- ---- what a file's build turns down
 
-rejects : (o : Out (List Insn)) (lent : ℕ) (r : Refusal) → Turned (Numbered late) o → (into lent o).answer ≡ R.Refused r → Numbered (5 ∷ 6 ∷ 7 ∷ 8 ∷ 9 ∷ 15 ∷ []) r
-rejects (refused s) lent r h e = let same : s ≡ r = cc in rw same at (numbered_more late (5 ∷ 6 ∷ 7 ∷ 8 ∷ 9 ∷ 15 ∷ []) tt s h)
-rejects (done p) lent r h e = by (too_short lent p) e
+rejects : (o : Out (List Insn)) (lent : ℕ) (r : Refusal) → Turned (Numbered late) o → (into lent o).answer ≡ Err r → Numbered (5 ∷ 6 ∷ 7 ∷ 8 ∷ 9 ∷ 15 ∷ []) r
+rejects (Err s) lent r h e = let same : s ≡ r = cc in rw same at (numbered_more late (5 ∷ 6 ∷ 7 ∷ 8 ∷ 9 ∷ 15 ∷ []) tt s h)
+rejects (Ok p) lent r h e = by (too_short lent p) e
   where
-    by : (b : Bool) → (cond b (Build.rejected lent ShortBuffer) (Build.placed lent p)).answer ≡ R.Refused r → Numbered (5 ∷ 6 ∷ 7 ∷ 8 ∷ 9 ∷ 15 ∷ []) r
+    by : (b : Bool) → (cond b (Build.rejected lent ShortBuffer) (Build.placed lent p)).answer ≡ Err r → Numbered (5 ∷ 6 ∷ 7 ∷ 8 ∷ 9 ∷ 15 ∷ []) r
     by true g = let same : ShortBuffer ≡ r = cc in rw (← same) tt
     by false g = never cc
 
 -- ---- of calls that keep their promises
 
-is_either : (b d : Bool) → (Is b ≡ Is d) ↔ (b ≡ d)
-is_either b d = (λ e. cc, λ e. ap Is e)
+is_either : (b d : Bool) → (◌≡◌ {A = Out Bool} (Ok b) (Ok d)) ↔ (b ≡ d)
+is_either b d = (λ e. cc, λ e. ap Ok e)
 
-module _ (c : Calls) (k : Kept c) (link : ℕ) (line : List ℕ) (l : LinkType) (small : link ≤ 3) (e : link_of link ≡ done l) where
+module _ (c : Calls) (k : Kept c) (link : ℕ) (line : List ℕ) (l : LinkType) (small : link ≤ 3) (e : link_of link ≡ Ok l) where
   found : Finds (length line) (line_words line) (scan (length line) start (line_words line))
   found = typed-found link line
 
@@ -182,14 +180,14 @@ module _ (c : Calls) (k : Kept c) (link : ℕ) (line : List ℕ) (l : LinkType) 
           turned : Turned (Numbered late) (program T)
           turned = unfold program in rw (passes link l p e a.1) (compile_turned l (tree_of p))
 
-      reads : (F : List ℕ) → length F ≤ 65535 → (c.base T).read F ≡ Is (says l F p)
+      reads : (F : List ℕ) → length F ≤ 65535 → (c.base T).read F ≡ Ok (says l F p)
       reads F h = (k.base T).reads F ∙ file_says link l p F e a.1 (le-ltb 65535 (length F) h)
 
       by_says : (P F : List ℕ) → length F ≤ 65535 → B.Decided (c.base T) P F F → Decided (c.base T) P F l p
       by_says P F h d =
           record {
-            accepted = (λ g. (is_either (says l F p) true).0 (sym (reads F h) ∙ d.accepted.0 g), λ g. d.accepted.1 (reads F h ∙ ap Is g));
-            dropped = (λ g. (is_either (says l F p) false).0 (sym (reads F h) ∙ d.dropped.0 g), λ g. d.dropped.1 (reads F h ∙ ap Is g));
+            accepted = (λ g. (is_either (says l F p) true).0 (sym (reads F h) ∙ d.accepted.0 g), λ g. d.accepted.1 (reads F h ∙ ap Ok g));
+            dropped = (λ g. (is_either (says l F p) false).0 (sym (reads F h) ∙ d.dropped.0 g), λ g. d.dropped.1 (reads F h ∙ ap Ok g));
             either = d.either;
           }
 
@@ -239,20 +237,20 @@ module _ (c : Calls) (k : Kept c) (link : ℕ) (line : List ℕ) (l : LinkType) 
 -- ---- T-04
 
 module _ (link : ℕ) (r : Refusal) (i : ℕ) where
-  sized_zeroes : (f : Found) → (sized link f).answer ≡ Refused r i → (sized link f).tree ≡ replicate 3080 0
+  sized_zeroes : (f : Found) → (sized link f).answer ≡ Err (fault r i) → (sized link f).tree ≡ replicate 3080 0
   sized_zeroes (unknown j) h = refl
   sized_zeroes (unfinished j) h = refl
   sized_zeroes (phrase p) h = by (within p) h
     where
-      by : (b : Bool) → (cond b (placed (file_of link p)) (rejected TooLarge 0)).answer ≡ Refused r i → (cond b (placed (file_of link p)) (rejected TooLarge 0)).tree ≡ replicate 3080 0
+      by : (b : Bool) → (cond b (placed (file_of link p)) (rejected TooLarge 0)).answer ≡ Err (fault r i) → (cond b (placed (file_of link p)) (rejected TooLarge 0)).tree ≡ replicate 3080 0
       by true g = never cc
       by false g = refl
 
-  linked_zeroes : (o : Out LinkType) (f : Found) → (linked o (sized link f)).answer ≡ Refused r i → (linked o (sized link f)).tree ≡ replicate 3080 0
-  linked_zeroes (refused q) f h = refl
-  linked_zeroes (done l) f h = sized_zeroes f h
+  linked_zeroes : (o : Out LinkType) (f : Found) → (linked o (sized link f)).answer ≡ Err (fault r i) → (linked o (sized link f)).tree ≡ replicate 3080 0
+  linked_zeroes (Err q) f h = refl
+  linked_zeroes (Ok l) f h = sized_zeroes f h
 
-  typed_zeroes : (line : List ℕ) → (typed link line).answer ≡ Refused r i → (typed link line).tree ≡ replicate 3080 0
+  typed_zeroes : (line : List ℕ) → (typed link line).answer ≡ Err (fault r i) → (typed link line).tree ≡ replicate 3080 0
   unfolding typed
   typed_zeroes line h = linked_zeroes (link_of link) (scan (length line) start (line_words line)) h
 
@@ -264,6 +262,6 @@ types c k link line =
       zeroes = λ r i h. k.leaves link line ∙ typed_zeroes link r i line (sym (k.answers link line) ∙ h);
     }
   where
-    outside : (link < 1) ⊎ (3 < link) → link_of link ≡ refused StrangeFile
+    outside : (link < 1) ⊎ (3 < link) → link_of link ≡ Err StrangeFile
     outside (inl h) = link_low link h
     outside (inr h) = link_high link h

@@ -1,15 +1,15 @@
 -- What `scan` finds is what the grammar says, and nothing else: every line has exactly one answer.
+use Rattle.std.specs.Prelude.{Option, None, Some}
+use Rattle.std.specs.Prelude.{Ok}
 use Prim.Native.Nat.{ℕ}
 use mathlib.Core.Logic.{◌↔◌}
 use mathlib.Core.Path.{◌≡◌, refl, sym, ap, ◌∙◌}
 use mathlib.Core.List.{List, [], ◌∷◌, ◌++◌, append_assoc, append-nil}
 use mathlib.Core.Bool.{Bool, true, false, ◌&&◌}
-use mathlib.Core.Option.{Option, none, some}
 use native.Mathlib.Omega.{arith}
 use lib.ListN.{length}
 use lib.Dec.{leb}
 use borrow.Author.Tests.{leb-true, le-leb}
-use Rattle.error.specs.Answer.{done}
 use Rattle.ast.specs.declared.LinkType.{LinkType}
 use Rattle.ast.specs.File.{link_of}
 use Rattle.typing.specs.Words.{Word, Placed, known, strange, line_words}
@@ -24,43 +24,43 @@ never e = absurd (omega arith)
 
 -- ---- walks
 
-walk-next : (st : State) (w : Word) (st' : State) (ws : List Word) → step st w ≡ some st' → walk st (w ∷ ws) ≡ walk st' ws
+walk-next : (st : State) (w : Word) (st' : State) (ws : List Word) → step st w ≡ Some st' → walk st (w ∷ ws) ≡ walk st' ws
 unfolding walk
 walk-next st w st' ws e = rw (e, walk)
 
-walk-stops : (st : State) (w : Word) (ws : List Word) → step st w ≡ none → walk st (w ∷ ws) ≡ none
+walk-stops : (st : State) (w : Word) (ws : List Word) → step st w ≡ None → walk st (w ∷ ws) ≡ None
 unfolding walk
 walk-stops st w ws e = rw (e, walk)
 
-parse-next : (st : State) (w : Word) (st' : State) (ws : List Word) → step st w ≡ some st' → parse st (w ∷ ws) ≡ parse st' ws
+parse-next : (st : State) (w : Word) (st' : State) (ws : List Word) → step st w ≡ Some st' → parse st (w ∷ ws) ≡ parse st' ws
 unfolding parse
 parse-next st w st' ws e = rw (e, parse)
 
-parse-stops : (st : State) (w : Word) (ws : List Word) → step st w ≡ none → parse st (w ∷ ws) ≡ none
+parse-stops : (st : State) (w : Word) (ws : List Word) → step st w ≡ None → parse st (w ∷ ws) ≡ None
 unfolding parse
 parse-stops st w ws e = rw (e, parse)
 
 -- a walk over one word more begins with a step
-walk-cases : (o : Option State) (ws : List Word) (st' : State) (st : State) (w : Word) → step st w ≡ o → walk st (w ∷ ws) ≡ some st'
-    → (st₁ : State) × (step st w ≡ some st₁) × (walk st₁ ws ≡ some st')
-walk-cases none ws st' st w e h = never (let z = walk-stops st w ws e in cc)
-walk-cases (some st₁) ws st' st w e h = (st₁, e, sym (walk-next st w st₁ ws e) ∙ h)
+walk-cases : (o : Option State) (ws : List Word) (st' : State) (st : State) (w : Word) → step st w ≡ o → walk st (w ∷ ws) ≡ Some st'
+    → (st₁ : State) × (step st w ≡ Some st₁) × (walk st₁ ws ≡ Some st')
+walk-cases None ws st' st w e h = never (let z = walk-stops st w ws e in cc)
+walk-cases (Some st₁) ws st' st w e h = (st₁, e, sym (walk-next st w st₁ ws e) ∙ h)
 
-walk-sound : (ws : List Word) (st st' : State) → walk st ws ≡ some st' → before st' ≡ before st ++ ws
+walk-sound : (ws : List Word) (st st' : State) → walk st ws ≡ Some st' → before st' ≡ before st ++ ws
 unfolding walk
 walk-sound [] st st' e = let z : st ≡ st' = cc in rw (← z) (sym (append-nil (before st)))
 walk-sound (w ∷ ws) st st' e =
     let k = walk-cases (step st w) ws st' st w refl e in
     walk-sound ws k.0 st' k.2 ∙ (ap (λ vs. vs ++ ws) (stepped st w k.0 k.1) ∙ append_assoc (before st) (w ∷ []) ws)
 
-walk-parse : (ws rest : List Word) (st st' : State) → walk st ws ≡ some st' → parse st (ws ++ rest) ≡ parse st' rest
+walk-parse : (ws rest : List Word) (st st' : State) → walk st ws ≡ Some st' → parse st (ws ++ rest) ≡ parse st' rest
 unfolding walk
 walk-parse [] rest st st' e = let z : st ≡ st' = cc in ap (λ s. parse s rest) z
 walk-parse (w ∷ ws) rest st st' e =
     let k = walk-cases (step st w) ws st' st w refl e in
     parse-next st w k.0 (ws ++ rest) k.1 ∙ walk-parse ws rest k.0 st' k.2
 
-walk-snoc : (ws : List Word) (w : Word) (st st₁ st' : State) → walk st ws ≡ some st₁ → step st₁ w ≡ some st' → walk st (ws ++ (w ∷ [])) ≡ some st'
+walk-snoc : (ws : List Word) (w : Word) (st st₁ st' : State) → walk st ws ≡ Some st₁ → step st₁ w ≡ Some st' → walk st (ws ++ (w ∷ [])) ≡ Some st'
 unfolding walk
 walk-snoc [] w st st₁ st' e f = let z : st ≡ st₁ = cc in walk-next st w st' [] (rw z f)
 walk-snoc (v ∷ ws) w st st₁ st' e f =
@@ -68,41 +68,41 @@ walk-snoc (v ∷ ws) w st st₁ st' e f =
     walk-next st v k.0 (ws ++ (w ∷ [])) k.1 ∙ walk-snoc ws w k.0 st₁ st' k.2 f
 
 -- words that are read to a phrase are walked over
-walked_by : (ws rest : List Word) (st : State) (w : Word) (p : Phrase) (o : Option State) → step st w ≡ o → parse st (w ∷ (ws ++ rest)) ≡ some p
-    → ((st₁ : State) → parse st₁ (ws ++ rest) ≡ some p → (st' : State) × (walk st₁ ws ≡ some st')) → (st' : State) × (walk st (w ∷ ws) ≡ some st')
-walked_by ws rest st w p none f e ih = never (let z = parse-stops st w (ws ++ rest) f in cc)
-walked_by ws rest st w p (some st₁) f e ih =
+walked_by : (ws rest : List Word) (st : State) (w : Word) (p : Phrase) (o : Option State) → step st w ≡ o → parse st (w ∷ (ws ++ rest)) ≡ Some p
+    → ((st₁ : State) → parse st₁ (ws ++ rest) ≡ Some p → (st' : State) × (walk st₁ ws ≡ Some st')) → (st' : State) × (walk st (w ∷ ws) ≡ Some st')
+walked_by ws rest st w p None f e ih = never (let z = parse-stops st w (ws ++ rest) f in cc)
+walked_by ws rest st w p (Some st₁) f e ih =
     let k = ih st₁ (sym (parse-next st w st₁ (ws ++ rest) f) ∙ e) in
     (k.0, walk-next st w st₁ ws f ∙ k.1)
 
-walked : (ws rest : List Word) (st : State) (p : Phrase) → parse st (ws ++ rest) ≡ some p → (st' : State) × (walk st ws ≡ some st')
+walked : (ws rest : List Word) (st : State) (p : Phrase) → parse st (ws ++ rest) ≡ Some p → (st' : State) × (walk st ws ≡ Some st')
 unfolding walk
 walked [] rest st p e = (st, refl)
 walked (w ∷ ws) rest st p e = walked_by ws rest st w p (step st w) refl e (λ st₁ h. walked ws rest st₁ p h)
 
 -- ---- what has been read begins a line that the rules allow, and what does not is not read
 
-reached : (ws : List Word) (st : State) → walk start ws ≡ some st → before st ≡ ws
+reached : (ws : List Word) (st : State) → walk start ws ≡ Some st → before st ≡ ws
 reached ws st e = walk-sound ws start st e ∙ ap (λ vs. vs ++ ws) start_words
 
-reached-begins : (ws : List Word) (st : State) → walk start ws ≡ some st → Begins ws
+reached-begins : (ws : List Word) (st : State) → walk start ws ≡ Some st → Begins ws
 reached-begins ws st e = rw (reached ws st e) at (begins st)
 
-begun : (ws : List Word) → Begins ws → (st : State) × (walk start ws ≡ some st)
+begun : (ws : List Word) → Begins ws → (st : State) × (walk start ws ≡ Some st)
 begun ws b = walked ws b.0 start b.1.0 (ap (parse start) (sym b.1.1) ∙ parses b.1.0)
 
 -- an allowed line that goes on from what has been read
-goes_on : (ws rest : List Word) (st : State) (p : Phrase) → walk start ws ≡ some st → words_of p ≡ ws ++ rest → parse st rest ≡ some p
+goes_on : (ws rest : List Word) (st : State) (p : Phrase) → walk start ws ≡ Some st → words_of p ≡ ws ++ rest → parse st rest ≡ Some p
 goes_on ws rest st p e h = sym (walk-parse ws rest start st e) ∙ (ap (parse start) (sym h) ∙ parses p)
 
-none-goes-on : (ws : List Word) (w : Word) (st : State) → walk start ws ≡ some st → step st w ≡ none → ¬ Begins (ws ++ (w ∷ []))
-none-goes-on ws w st e f b =
+None-goes-on : (ws : List Word) (w : Word) (st : State) → walk start ws ≡ Some st → step st w ≡ None → ¬ Begins (ws ++ (w ∷ []))
+None-goes-on ws w st e f b =
     never (let z = goes_on ws (w ∷ b.0) st b.1.0 e (b.1.1 ∙ append_assoc ws (w ∷ []) b.0) in
     let y = parse-stops st w b.0 f in cc)
 
-none-ends : (ws : List Word) (st : State) → walk start ws ≡ some st → final st ≡ none → ¬ Allowed ws
+None-ends : (ws : List Word) (st : State) → walk start ws ≡ Some st → final st ≡ None → ¬ Allowed ws
 unfolding parse
-none-ends ws st e f a = never (let z : final st ≡ some a.0 = goes_on ws [] st a.0 e (a.1 ∙ sym (append-nil ws)) in cc)
+None-ends ws st e f a = never (let z : final st ≡ Some a.0 = goes_on ws [] st a.0 e (a.1 ∙ sym (append-nil ws)) in cc)
 
 -- ---- what is found is what the grammar says
 
@@ -119,19 +119,19 @@ unfolding spot
 words_snoc [] k w = refl
 words_snoc (s ∷ ss) k w = ap (λ ws. s.word ∷ ws) (words_snoc ss k w)
 
-ends_found : (end : ℕ) (st : State) (ss : List Spot) → walk start (words ss) ≡ some st → (o : Option Phrase) → final st ≡ o → Finds end (spots ss ++ []) (ends end o)
-ends_found end st ss e none f = not_ended ss (append-nil (spots ss)) (reached-begins (words ss) st e) (none-ends (words ss) st e f)
-ends_found end st ss e (some p) f = whole ss p (append-nil (spots ss)) (finished st p f ∙ reached (words ss) st e)
+ends_found : (end : ℕ) (st : State) (ss : List Spot) → walk start (words ss) ≡ Some st → (o : Option Phrase) → final st ≡ o → Finds end (spots ss ++ []) (ends end o)
+ends_found end st ss e None f = not_ended ss (append-nil (spots ss)) (reached-begins (words ss) st e) (None-ends (words ss) st e f)
+ends_found end st ss e (Some p) f = whole ss p (append-nil (spots ss)) (finished st p f ∙ reached (words ss) st e)
 
-step-found : (end k : ℕ) (w : Word) (ps : List Placed) (st : State) (ss : List Spot) → walk start (words ss) ≡ some st → (o : Option State) → step st w ≡ o
-    → ((st' : State) → step st w ≡ some st' → Finds end (spots ss ++ (known k w ∷ ps)) (scan end st' ps))
+step-found : (end k : ℕ) (w : Word) (ps : List Placed) (st : State) (ss : List Spot) → walk start (words ss) ≡ Some st → (o : Option State) → step st w ≡ o
+    → ((st' : State) → step st w ≡ Some st' → Finds end (spots ss ++ (known k w ∷ ps)) (scan end st' ps))
     → Finds end (spots ss ++ (known k w ∷ ps)) (scan end st (known k w ∷ ps))
 unfolding scan
-step-found end k w ps st ss e none f ih =
-    rw (f, scan) (cannot_follow ss k w ps refl (reached-begins (words ss) st e) (none-goes-on (words ss) w st e f))
-step-found end k w ps st ss e (some st') f ih = rw (f, scan) (ih st' f)
+step-found end k w ps st ss e None f ih =
+    rw (f, scan) (cannot_follow ss k w ps refl (reached-begins (words ss) st e) (None-goes-on (words ss) w st e f))
+step-found end k w ps st ss e (Some st') f ih = rw (f, scan) (ih st' f)
 
-scan-found : (end : ℕ) (ps : List Placed) (st : State) (ss : List Spot) → walk start (words ss) ≡ some st → Finds end (spots ss ++ ps) (scan end st ps)
+scan-found : (end : ℕ) (ps : List Placed) (st : State) (ss : List Spot) → walk start (words ss) ≡ Some st → Finds end (spots ss ++ ps) (scan end st ps)
 unfolding scan
 scan-found end [] st ss e = ends_found end st ss e (final st) refl
 scan-found end (strange k ∷ ps) st ss e = not_known ss k ps refl (reached-begins (words ss) st e)
@@ -141,30 +141,30 @@ scan-found end (known k w ∷ ps) st ss e =
 
 -- ---- and nothing else is
 
-scan-next : (end k : ℕ) (w : Word) (ps : List Placed) (st st' : State) → step st w ≡ some st' → scan end st (known k w ∷ ps) ≡ scan end st' ps
+scan-next : (end k : ℕ) (w : Word) (ps : List Placed) (st st' : State) → step st w ≡ Some st' → scan end st (known k w ∷ ps) ≡ scan end st' ps
 unfolding scan
 scan-next end k w ps st st' e = rw (e, scan)
 
-scan-stops : (end k : ℕ) (w : Word) (ps : List Placed) (st : State) → step st w ≡ none → scan end st (known k w ∷ ps) ≡ unfinished k
+scan-stops : (end k : ℕ) (w : Word) (ps : List Placed) (st : State) → step st w ≡ None → scan end st (known k w ∷ ps) ≡ unfinished k
 unfolding scan
 scan-stops end k w ps st e = rw (e, scan)
 
-scan-walk : (end : ℕ) (ss : List Spot) (ps : List Placed) (st st' : State) → walk st (words ss) ≡ some st' → scan end st (spots ss ++ ps) ≡ scan end st' ps
+scan-walk : (end : ℕ) (ss : List Spot) (ps : List Placed) (st st' : State) → walk st (words ss) ≡ Some st' → scan end st (spots ss ++ ps) ≡ scan end st' ps
 unfolding walk
 scan-walk end [] ps st st' e = let z : st ≡ st' = cc in ap (λ s. scan end s ps) z
 scan-walk end (s ∷ ss) ps st st' e =
     let k = walk-cases (step st s.word) (words ss) st' st s.word refl e in
     scan-next end s.place s.word (spots ss ++ ps) st k.0 k.1 ∙ scan-walk end ss ps k.0 st' k.2
 
-stops-or : (ss : List Spot) (w : Word) (st : State) → walk start (words ss) ≡ some st → ¬ Begins (words ss ++ (w ∷ [])) → (o : Option State) → step st w ≡ o → step st w ≡ none
-stops-or ss w st e no_more none f = f
-stops-or ss w st e no_more (some st') f = absurd (no_more (reached-begins (words ss ++ (w ∷ [])) st' (walk-snoc (words ss) w start st st' e f)))
+stops-or : (ss : List Spot) (w : Word) (st : State) → walk start (words ss) ≡ Some st → ¬ Begins (words ss ++ (w ∷ [])) → (o : Option State) → step st w ≡ o → step st w ≡ None
+stops-or ss w st e no_more None f = f
+stops-or ss w st e no_more (Some st') f = absurd (no_more (reached-begins (words ss ++ (w ∷ [])) st' (walk-snoc (words ss) w start st st' e f)))
 
-ends-or : (ss : List Spot) (st : State) → walk start (words ss) ≡ some st → ¬ Allowed (words ss) → (o : Option Phrase) → final st ≡ o → final st ≡ none
-ends-or ss st e never_ends none f = f
-ends-or ss st e never_ends (some p) f = absurd (never_ends (p, finished st p f ∙ reached (words ss) st e))
+ends-or : (ss : List Spot) (st : State) → walk start (words ss) ≡ Some st → ¬ Allowed (words ss) → (o : Option Phrase) → final st ≡ o → final st ≡ None
+ends-or ss st e never_ends None f = f
+ends-or ss st e never_ends (Some p) f = absurd (never_ends (p, finished st p f ∙ reached (words ss) st e))
 
-goes_last : (ws : List Word) (st : State) (p : Phrase) → walk start ws ≡ some st → words_of p ≡ ws → final st ≡ some p
+goes_last : (ws : List Word) (st : State) (p : Phrase) → walk start ws ≡ Some st → words_of p ≡ ws → final st ≡ Some p
 unfolding parse
 goes_last ws st p h w = goes_on ws [] st p h (w ∙ sym (append-nil ws))
 
@@ -199,7 +199,7 @@ one-finding end all f g h k = sym (found-scan end all f h) ∙ found-scan end al
 -- ---- the answer
 
 -- each answer is that of what is found
-pub typed-of : (link : ℕ) (line : List ℕ) (l : LinkType) (f : Found) → link_of link ≡ done l → Finds (length line) (line_words line) f → typed link line ≡ sized link f
+pub typed-of : (link : ℕ) (line : List ℕ) (l : LinkType) (f : Found) → link_of link ≡ Ok l → Finds (length line) (line_words line) f → typed link line ≡ sized link f
 unfolding typed
 typed-of link line l f e h = rw (e, found-scan (length line) (line_words line) f h)
 

@@ -1,4 +1,6 @@
 -- Lines, and what `typed` answers and leaves for each. The answers come from a second implementation, written from the request's words.
+use Rattle.std.specs.Prelude.{Ok, Err, Result}
+use Rattle.typing.specs.declared.Fault.{Fault}
 use Prim.Native.Nat.{ℕ, zero, suc, ◌/◌, ◌%◌}
 use mathlib.Core.List.{List, [], ◌∷◌}
 use mathlib.Core.Bool.{Bool, true, false, ◌&&◌}
@@ -6,8 +8,6 @@ use lib.ListN.{length}
 use lib.Dec.{eqb, T}
 use Rattle.error.specs.Answer.{number_of}
 use Rattle.bpf.specs.Bytes.{be}
-use Rattle.typing.specs.declared.TypeResult.{TypeResult}
-use Rattle.typing.specs.declared.TypeResult.TheVariants.{Length, Refused}
 use Rattle.typing.specs.Words.{word_of, words_from}
 use Rattle.typing.specs.Parse.{scan}
 use Rattle.typing.specs.Typed.{Typed, typed}
@@ -23,9 +23,9 @@ unpacked (suc n) v s = elim (eqb v 1) [ true ↦ s | false ↦ unpacked n (v / 2
 bytes : ℕ → List ℕ
 bytes v = unpacked 3080 v []
 
-told : TypeResult → ℕ → ℕ → List ℕ → Bool
-told (Length n) number place f = eqb number 0 && (eqb place 0 && eqb n (length f))
-told (Refused r k) number place f = eqb number (number_of r) && (eqb place k && eqb 0 (length f))
+told : Result ℕ Fault → ℕ → ℕ → List ℕ → Bool
+told (Ok n) number place f = eqb number 0 && (eqb place 0 && eqb n (length f))
+told (Err e) number place f = eqb number (number_of e.refusal) && (eqb place e.place && eqb 0 (length f))
 
 -- a tree starts with a file
 starts : List ℕ → List ℕ → Bool

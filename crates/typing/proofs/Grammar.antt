@@ -1,8 +1,8 @@
 -- The parser keeps the grammar: it reads the words of a phrase as that phrase, and whatever it has read begins the words of one.
+use Rattle.std.specs.Prelude.{Option, None, Some}
 use Prim.Native.Nat.{ℕ, zero, suc}
 use mathlib.Core.Path.{◌≡◌, refl, sym, ap, ◌∙◌}
 use mathlib.Core.List.{List, [], ◌∷◌, ◌++◌, append_assoc, append-nil}
-use mathlib.Core.Option.{Option, none, some}
 use Rattle.typing.specs.Words.{Transport, Side, Join, Word, name, ip, over, side, host, port, opening, closing, negate, join, address, number}
 use Rattle.typing.specs.Phrase.{Term, named, bare, hosts, ports, Operand, term, negated, brackets, Phrase, one, two, maybe, term_words, operand_words, words_of}
 use Rattle.typing.specs.Finds.{Begins}
@@ -10,12 +10,12 @@ use Rattle.typing.specs.Parse.{Level, fresh, after, notted, nots, fill, State, w
 
 -- the state after some words, and the phrase that words after a state make
 unfoldable pub walk : State → List Word → Option State
-walk st [] = some st
-walk st (w ∷ ws) = elim (step st w) [ none ↦ none | some st' ↦ walk st' ws ]
+walk st [] = Some st
+walk st (w ∷ ws) = elim (step st w) [ None ↦ None | Some st' ↦ walk st' ws ]
 
 unfoldable pub parse : State → List Word → Option Phrase
 parse st [] = final st
-parse st (w ∷ ws) = elim (step st w) [ none ↦ none | some st' ↦ parse st' ws ]
+parse st (w ∷ ws) = elim (step st w) [ None ↦ None | Some st' ↦ parse st' ws ]
 
 -- ---- the words of a phrase are read as the phrase
 
@@ -39,12 +39,12 @@ term_read : (t : Term) (l : Level) (ls : List Level) (rest : List Word) → Stop
 unfolding parse
 term_read (named n) l ls rest h = refl
 term_read (bare t) l ls rest h = lone_full t l ls h
-term_read (hosts none a) l ls rest h = refl
-term_read (hosts (some s) a) l ls rest h = refl
-term_read (ports none none k) l ls rest h = refl
-term_read (ports none (some s) k) l ls rest h = refl
-term_read (ports (some t) none k) l ls rest h = refl
-term_read (ports (some t) (some s) k) l ls rest h = refl
+term_read (hosts None a) l ls rest h = refl
+term_read (hosts (Some s) a) l ls rest h = refl
+term_read (ports None None k) l ls rest h = refl
+term_read (ports None (Some s) k) l ls rest h = refl
+term_read (ports (Some t) None k) l ls rest h = refl
+term_read (ports (Some t) (Some s) k) l ls rest h = refl
 
 mutual
   unfolding parse
@@ -61,7 +61,7 @@ mutual
       ap (parse (want (fresh 0) ls)) (append_assoc (words_of p) (join j ∷ operand_words o) rest)
       ∙ (phrase_read p ls (join j ∷ (operand_words o ++ rest)) at_join ∙ operand_read o (after p j 0) ls rest h)
 
-pub parses : (p : Phrase) → parse start (words_of p) ≡ some p
+pub parses : (p : Phrase) → parse start (words_of p) ≡ Some p
 unfolding parse
 parses p = ap (parse start) (sym (append-nil (words_of p))) ∙ phrase_read p [] [] at_end
 
@@ -123,8 +123,8 @@ filled l o ls = ap (λ ws. outer ls ++ ws) (fill_words l o) ∙ sym (append_asso
 
 -- what holds of a state, where there is one
 abbrev Held : (State → Type 0) → Option State → Type 0
-Held q none = Unit {0}
-Held q (some st) = q st
+Held q None = Unit {0}
+Held q (Some st) = q st
 
 close_sound : (p : Phrase) (ls : List Level) → Held (λ st. before st ≡ (outer ls ++ words_of p) ++ (closing ∷ [])) (close p ls)
 unfolding before outer
@@ -134,8 +134,8 @@ close_sound p (l ∷ ls) = filled l (brackets p) ls ∙ simp append_assoc
 sided_sound : (t : Option Transport) (s : Side) (l : Level) (ls : List Level)
     → Held (λ st. before st ≡ ((outer ls ++ level_words l) ++ (maybe over t ++ (side s ∷ []))) ++ (host ∷ [])) (sided_host t s l ls)
 unfolding before
-sided_sound none s l ls = sym (append_assoc (outer ls ++ level_words l) (side s ∷ []) (host ∷ []))
-sided_sound (some t) s l ls = tt
+sided_sound None s l ls = sym (append_assoc (outer ls ++ level_words l) (side s ∷ []) (host ∷ []))
+sided_sound (Some t) s l ls = tt
 
 step_sound : (st : State) (w : Word) → Held (λ st'. before st' ≡ before st ++ (w ∷ [])) (step st w)
 unfolding before outer level_words repeat
@@ -206,7 +206,7 @@ step_sound (full p ls) (join j) = sym (append_assoc (outer ls) (words_of p) (joi
 step_sound (full p ls) (address a) = tt
 step_sound (full p ls) (number k) = tt
 
-pub stepped : (st : State) (w : Word) (st' : State) → step st w ≡ some st' → before st' ≡ before st ++ (w ∷ [])
+pub stepped : (st : State) (w : Word) (st' : State) → step st w ≡ Some st' → before st' ≡ before st ++ (w ∷ [])
 stepped st w st' e = rw e at (step_sound st w)
 
 pub start_words : before start ≡ []
@@ -218,7 +218,7 @@ start_words = refl
 begins_less : (ws : List Word) (w : Word) → Begins (ws ++ (w ∷ [])) → Begins ws
 begins_less ws w b = (w ∷ b.0, (b.1.0, b.1.1 ∙ append_assoc ws (w ∷ []) b.0))
 
-begins_step : (st : State) (w : Word) (st' : State) → step st w ≡ some st' → Begins (before st') → Begins (before st)
+begins_step : (st : State) (w : Word) (st' : State) → step st w ≡ Some st' → Begins (before st') → Begins (before st)
 begins_step st w st' e b = begins_less (before st) w (rw (stepped st w st' e) at b)
 
 full_begins : (ls : List Level) (p : Phrase) → Begins (before (full p ls))
@@ -232,16 +232,16 @@ ported_begins t s l ls = begins_step (ported t s l ls) (number 0) (full (fill l 
 -- every state that is reached begins a line that the rules allow
 pub begins : (st : State) → Begins (before st)
 begins (want l ls) = begins_step (want l ls) (name ip) (full (fill l (term (named ip))) ls) refl (full_begins ls _)
-begins (lone t l ls) = begins_step (lone t l ls) port (ported (some t) none l ls) refl (ported_begins (some t) none l ls)
-begins (sided t s l ls) = begins_step (sided t s l ls) port (ported t (some s) l ls) refl (ported_begins t (some s) l ls)
+begins (lone t l ls) = begins_step (lone t l ls) port (ported (Some t) None l ls) refl (ported_begins (Some t) None l ls)
+begins (sided t s l ls) = begins_step (sided t s l ls) port (ported t (Some s) l ls) refl (ported_begins t (Some s) l ls)
 begins (hosted s l ls) = begins_step (hosted s l ls) (address 0) (full (fill l (term (hosts s 0))) ls) refl (full_begins ls _)
 begins (ported t s l ls) = ported_begins t s l ls
 begins (full p ls) = full_begins ls p
 
 -- where the words may end they are the phrase's
 abbrev HeldPhrase : (Phrase → Type 0) → Option Phrase → Type 0
-HeldPhrase q none = Unit {0}
-HeldPhrase q (some p) = q p
+HeldPhrase q None = Unit {0}
+HeldPhrase q (Some p) = q p
 
 ended_sound : (p : Phrase) (ls : List Level) → HeldPhrase (λ q. words_of q ≡ outer ls ++ words_of p) (ended p ls)
 unfolding outer
@@ -257,5 +257,5 @@ final_sound (hosted s l ls) = tt
 final_sound (ported t s l ls) = tt
 final_sound (full p ls) = ended_sound p ls
 
-pub finished : (st : State) (p : Phrase) → final st ≡ some p → words_of p ≡ before st
+pub finished : (st : State) (p : Phrase) → final st ≡ Some p → words_of p ≡ before st
 finished st p e = rw e at (final_sound st)

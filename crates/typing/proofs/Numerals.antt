@@ -1,10 +1,10 @@
 -- Words are read as numbers exactly where they are decimals within their limits, and as addresses where they are four of them.
+use Rattle.std.specs.Prelude.{Option, None, Some}
 use Prim.Native.Nat.{ℕ, ◌+◌, ◌*◌, ◌-◌, ◌≤◌}
 use mathlib.Core.Path.{◌≡◌, refl, sym, ap, ap₂, ◌∙◌}
 use mathlib.Core.List.{List, [], ◌∷◌, ◌++◌, append_assoc, append-nil}
 use mathlib.Core.Bool.{Bool, true, false, cond, not, ◌&&◌, ◌||◌}
 use mathlib.Core.Logic.{◌↔◌}
-use mathlib.Core.Option.{Option, none, some}
 use native.Mathlib.Omega.{arith}
 use native.Mathlib.Nat.{zero-add}
 use lib.ListN.{length}
@@ -71,10 +71,10 @@ shape _ _ (longer s v d h one k) =
       lowest = λ z. p.lowest one;
     }
 
-plainly : (most c : ℕ) (s : List ℕ) (v : ℕ) → digits (c ∷ s) ≡ true → value 0 (c ∷ s) ≡ v → not (eqb c 48) || empty s ≡ true → v ≤ most → decimal most (c ∷ s) ≡ some v
+plainly : (most c : ℕ) (s : List ℕ) (v : ℕ) → digits (c ∷ s) ≡ true → value 0 (c ∷ s) ≡ v → not (eqb c 48) || empty s ≡ true → v ≤ most → decimal most (c ∷ s) ≡ Some v
 plainly most c s v h k l m = rw (h, l, k, le-leb v most m)
 
-pub written : (most : ℕ) (s : List ℕ) (v : ℕ) → Decimal s v → v ≤ most → decimal most s ≡ some v
+pub written : (most : ℕ) (s : List ℕ) (v : ℕ) → Decimal s v → v ≤ most → decimal most s ≡ Some v
 written most s v h m =
     let p = shape s v h in
     rw p.text (plainly most p.first p.rest v (rw p.text at p.all) (rw p.text at p.worth) p.plain m)
@@ -104,11 +104,11 @@ spelled c (d ∷ s) h k =
     above true w z = never cc
     above false w z = omega (arith, (of_digit c (both_true (digit c) (digits (d ∷ s)) h).0).0, eqb-false c 48 w)
 
-told : (b : Bool) (x v : ℕ) → cond b (some x) none ≡ some v → (b ≡ true) × (x ≡ v)
+told : (b : Bool) (x v : ℕ) → cond b (Some x) None ≡ Some v → (b ≡ true) × (x ≡ v)
 told true x v e = (refl, cc)
 told false x v e = never cc
 
-pub read : (most : ℕ) (s : List ℕ) (v : ℕ) → decimal most s ≡ some v → Decimal s v × (v ≤ most)
+pub read : (most : ℕ) (s : List ℕ) (v : ℕ) → decimal most s ≡ Some v → Decimal s v × (v ≤ most)
 read most [] v e = never cc
 read most (c ∷ s) v e =
     let k = told (digits (c ∷ s) && ((not (eqb c 48) || empty s) && leb (value 0 (c ∷ s)) most)) (value 0 (c ∷ s)) v e in
@@ -118,30 +118,30 @@ read most (c ∷ s) v e =
 
 -- ---- what stands between the dots
 
-dotted : List (List ℕ) → List ℕ
+unfoldable pub dotted : List (List ℕ) → List ℕ
 dotted [] = []
 dotted (p ∷ []) = p
 dotted (p ∷ q ∷ ps) = p ++ (46 ∷ dotted (q ∷ ps))
 
 -- there is something between the dots, be it nothing
-record Some (ps : List (List ℕ)) : Type 0 where
+record NotEmpty (ps : List (List ℕ)) : Type 0 where
   first : List ℕ
   rest : List (List ℕ)
   are : ps ≡ first ∷ rest
 
-onto_some : (c : ℕ) (ps : List (List ℕ)) → Some (onto c ps)
+onto_some : (c : ℕ) (ps : List (List ℕ)) → NotEmpty (onto c ps)
 onto_some c [] = record { first = c ∷ []; rest = []; are = refl }
 onto_some c (p ∷ ps) = record { first = c ∷ p; rest = ps; are = refl }
 
-parts_some : (s : List ℕ) → Some (parts s)
+parts_some : (s : List ℕ) → NotEmpty (parts s)
 parts_some [] = record { first = []; rest = []; are = refl }
 parts_some (c ∷ s) = by (eqb c 46)
   where
-    by : (b : Bool) → Some (cond b ([] ∷ parts s) (onto c (parts s)))
+    by : (b : Bool) → NotEmpty (cond b ([] ∷ parts s) (onto c (parts s)))
     by true = record { first = []; rest = parts s; are = refl }
     by false = onto_some c (parts s)
 
-dotted_empty : (ps : List (List ℕ)) → Some ps → dotted ([] ∷ ps) ≡ 46 ∷ dotted ps
+dotted_empty : (ps : List (List ℕ)) → NotEmpty ps → dotted ([] ∷ ps) ≡ 46 ∷ dotted ps
 unfolding dotted
 dotted_empty ps h = rw h.are
 
@@ -151,7 +151,7 @@ dotted_onto c [] = refl
 dotted_onto c (p ∷ []) = refl
 dotted_onto c (p ∷ q ∷ ps) = refl
 
-parts_dotted : (s : List ℕ) → dotted (parts s) ≡ s
+pub parts_dotted : (s : List ℕ) → dotted (parts s) ≡ s
 unfolding dotted
 parts_dotted [] = refl
 parts_dotted (c ∷ s) = by (eqb c 46) refl (parts_dotted s)
@@ -163,7 +163,7 @@ parts_dotted (c ∷ s) = by (eqb c 46) refl (parts_dotted s)
 no_dot : (c : ℕ) → digit c ≡ true → eqb c 46 ≡ false
 no_dot c h = ne_eqb c 46 (λ e. omega (arith, (of_digit c h).0))
 
-parts_last : (s : List ℕ) → digits s ≡ true → parts s ≡ s ∷ []
+pub parts_last : (s : List ℕ) → digits s ≡ true → parts s ≡ s ∷ []
 parts_last [] h = refl
 parts_last (c ∷ s) h = let e = both_true (digit c) (digits s) h in rw (no_dot c e.0, parts_last s e.1)
 
@@ -171,10 +171,10 @@ parts_next : (s t : List ℕ) → digits s ≡ true → parts (s ++ (46 ∷ t)) 
 parts_next [] t h = refl
 parts_next (c ∷ s) t h = let e = both_true (digit c) (digits s) h in rw (no_dot c e.0, parts_next s t e.1)
 
-all_digits : (s : List ℕ) (v : ℕ) → Decimal s v → digits s ≡ true
+pub all_digits : (s : List ℕ) (v : ℕ) → Decimal s v → digits s ≡ true
 all_digits s v h = (shape s v h).all
 
-reads_address : (s : List ℕ) (v : ℕ) → Dotted s v → four (octets (parts s)) ≡ some v
+reads_address : (s : List ℕ) (v : ℕ) → Dotted s v → four (octets (parts s)) ≡ Some v
 unfolding be
 reads_address s v h =
     let e : parts s ≡ h.s₁ ∷ h.s₂ ∷ h.s₃ ∷ h.s₄ ∷ [] =
@@ -182,7 +182,7 @@ reads_address s v h =
     (parts_next h.s₂ _ (all_digits _ _ h.second.0) ∙ ap (λ ps. h.s₂ ∷ ps)
     (parts_next h.s₃ _ (all_digits _ _ h.third.0) ∙ ap (λ ps. h.s₃ ∷ ps) (parts_last h.s₄ (all_digits _ _ h.fourth.0))))) in
     rw (e, written 255 _ _ h.first.0 h.first.1, written 255 _ _ h.second.0 h.second.1, written 255 _ _ h.third.0 h.third.1, written 255 _ _ h.fourth.0 h.fourth.1)
-    (ap some (omega (arith, h.worth)))
+    (ap Some (omega (arith, h.worth)))
 
 -- parts that are read as these numbers
 Read : List (List ℕ) → List ℕ → Type 0
@@ -191,16 +191,16 @@ Read [] (b ∷ bs) = ⊥
 Read (p ∷ ps) [] = ⊥
 Read (p ∷ ps) (b ∷ bs) = (Decimal p b × (b ≤ 255)) × Read ps bs
 
-octets_read : (ps : List (List ℕ)) (bs : List ℕ) → octets ps ≡ some bs → Read ps bs
+octets_read : (ps : List (List ℕ)) (bs : List ℕ) → octets ps ≡ Some bs → Read ps bs
 unfolding Read
 octets_read [] bs e = let z : [] ≡ bs = cc in rw (← z) tt
 octets_read (p ∷ ps) bs e = by (decimal 255 p) (octets ps) (λ b h. read 255 p b h) (octets_read ps) e
   where
-    by : (o : Option ℕ) (os : Option (List ℕ)) → ((b : ℕ) → o ≡ some b → Decimal p b × (b ≤ 255)) → ((cs : List ℕ) → os ≡ some cs → Read ps cs)
-        → before o os ≡ some bs → Read (p ∷ ps) bs
-    by none os h k w = never cc
-    by (some b) none h k w = never cc
-    by (some b) (some cs) h k w = let z : b ∷ cs ≡ bs = cc in rw (← z) (h b refl, k cs refl)
+    by : (o : Option ℕ) (os : Option (List ℕ)) → ((b : ℕ) → o ≡ Some b → Decimal p b × (b ≤ 255)) → ((cs : List ℕ) → os ≡ Some cs → Read ps cs)
+        → before o os ≡ Some bs → Read (p ∷ ps) bs
+    by None os h k w = never cc
+    by (Some b) None h k w = never cc
+    by (Some b) (Some cs) h k w = let z : b ∷ cs ≡ bs = cc in rw (← z) (h b refl, k cs refl)
 
 four_dotted : (ps : List (List ℕ)) (bs : List ℕ) → Read ps bs → length bs ≡ 4 → Dotted (dotted ps) (be 4 0 bs)
 unfolding Read dotted be
@@ -232,12 +232,12 @@ four_dotted (p ∷ q ∷ r ∷ t ∷ []) (a ∷ b ∷ c ∷ d ∷ []) h k =
 four_dotted (p ∷ q ∷ r ∷ t ∷ u ∷ ps) (a ∷ b ∷ c ∷ d ∷ []) h k = absurd h.1.1.1.1
 four_dotted ps (a ∷ b ∷ c ∷ d ∷ e ∷ bs) h k = absurd (omega arith)
 
-address_read : (s : List ℕ) (v : ℕ) → four (octets (parts s)) ≡ some v → Dotted s v
+address_read : (s : List ℕ) (v : ℕ) → four (octets (parts s)) ≡ Some v → Dotted s v
 address_read s v e = by (octets (parts s)) refl e
   where
-    by : (o : Option (List ℕ)) → octets (parts s) ≡ o → four o ≡ some v → Dotted s v
-    by none w h = never cc
-    by (some bs) w h =
+    by : (o : Option (List ℕ)) → octets (parts s) ≡ o → four o ≡ Some v → Dotted s v
+    by None w h = never cc
+    by (Some bs) w h =
         let k = told (eqb (length bs) 4) (be 4 0 bs) v h in
         rw (parts_dotted s, k.1) at (four_dotted (parts s) bs (octets_read (parts s) bs w) (eqb-true (length bs) 4 k.0))
 
@@ -260,12 +260,12 @@ PlainRows : List Row → Type 0
 PlainRows [] = Unit {0}
 PlainRows (r ∷ rs) = Plain r.word × PlainRows rs
 
-keyword_plain : (rs : List Row) (s : List ℕ) (w : Word) → PlainRows rs → keyword rs s ≡ some w → Plain w
+keyword_plain : (rs : List Row) (s : List ℕ) (w : Word) → PlainRows rs → keyword rs s ≡ Some w → Plain w
 unfolding PlainRows
 keyword_plain [] s w h e = never cc
 keyword_plain (r ∷ rs) s w h e = by (same r.text s) (keyword_plain rs s w h.1) e
   where
-    by : (b : Bool) → (keyword rs s ≡ some w → Plain w) → cond b (some r.word) (keyword rs s) ≡ some w → Plain w
+    by : (b : Bool) → (keyword rs s ≡ Some w → Plain w) → cond b (Some r.word) (keyword rs s) ≡ Some w → Plain w
     by true k z = let y : r.word ≡ w = cc in rw y at h.0
     by false k z = k z
 
@@ -274,51 +274,51 @@ unfolding PlainRows Plain
 rows_plain = (tt, (tt, (tt, (tt, (tt, (tt, (tt, (tt, (tt, (tt, (tt, (tt, (tt, (tt, (tt, (tt, (tt, tt)))))))))))))))))
 
 -- no word of the list starts with a digit
-keyword_none : (c : ℕ) (s : List ℕ) → digit c ≡ true → keyword keywords (c ∷ s) ≡ none
+keyword_none : (c : ℕ) (s : List ℕ) → digit c ≡ true → keyword keywords (c ∷ s) ≡ None
 keyword_none c s h =
     let d = of_digit c h in
     rw (ne_eqb 0x69 c (λ e. omega arith), ne_eqb 0x61 c (λ e. omega arith), ne_eqb 0x72 c (λ e. omega arith), ne_eqb 0x74 c (λ e. omega arith), ne_eqb 0x75 c (λ e. omega arith), ne_eqb 0x73 c (λ e. omega arith), ne_eqb 0x68 c (λ e. omega arith), ne_eqb 0x70 c (λ e. omega arith), ne_eqb 0x64 c (λ e. omega arith), ne_eqb 0x28 c (λ e. omega arith), ne_eqb 0x29 c (λ e. omega arith), ne_eqb 0x6e c (λ e. omega arith), ne_eqb 0x6f c (λ e. omega arith))
 
-starts_none : (s t : List ℕ) (v : ℕ) → Decimal s v → keyword keywords (s ++ t) ≡ none
+starts_none : (s t : List ℕ) (v : ℕ) → Decimal s v → keyword keywords (s ++ t) ≡ None
 starts_none s t v h =
     let p = shape s v h in
     rw p.text (keyword_none p.first (p.rest ++ t) (both_true (digit p.first) (digits p.rest) (rw p.text at p.all)).0)
 
 -- one number alone is no address
-alone_none : (s : List ℕ) → digits s ≡ true → four (octets (parts s)) ≡ none
+alone_none : (s : List ℕ) → digits s ≡ true → four (octets (parts s)) ≡ None
 alone_none s h = rw (parts_last s h) (by (decimal 255 s))
   where
-    by : (o : Option ℕ) → four (before o (some [])) ≡ none
-    by none = refl
-    by (some b) = refl
+    by : (o : Option ℕ) → four (before o (Some [])) ≡ None
+    by None = refl
+    by (Some b) = refl
 
 -- what a word is, by what its bytes are read as
 Chosen : Option Word → Option ℕ → Option ℕ → Option Word
 Chosen k a n = either k (either (made address a) (made number n))
 
-is_address : (k : Option Word) (a n : Option ℕ) (v : ℕ) → ((w : Word) → k ≡ some w → Plain w) → Chosen k a n ≡ some (address v) → a ≡ some v
+is_address : (k : Option Word) (a n : Option ℕ) (v : ℕ) → ((w : Word) → k ≡ Some w → Plain w) → Chosen k a n ≡ Some (address v) → a ≡ Some v
 unfolding Plain Chosen
-is_address none none none v h e = never cc
-is_address none none (some n) v h e = never cc
-is_address none (some a) n v h e = cc
-is_address (some w) a n v h e = absurd (h (address v) e)
+is_address None None None v h e = never cc
+is_address None None (Some n) v h e = never cc
+is_address None (Some a) n v h e = cc
+is_address (Some w) a n v h e = absurd (h (address v) e)
 
-is_number : (k : Option Word) (a n : Option ℕ) (v : ℕ) → ((w : Word) → k ≡ some w → Plain w) → Chosen k a n ≡ some (number v) → n ≡ some v
+is_number : (k : Option Word) (a n : Option ℕ) (v : ℕ) → ((w : Word) → k ≡ Some w → Plain w) → Chosen k a n ≡ Some (number v) → n ≡ Some v
 unfolding Plain Chosen
-is_number none none none v h e = never cc
-is_number none none (some n) v h e = cc
-is_number none (some a) n v h e = never cc
-is_number (some w) a n v h e = absurd (h (number v) e)
+is_number None None None v h e = never cc
+is_number None None (Some n) v h e = cc
+is_number None (Some a) n v h e = never cc
+is_number (Some w) a n v h e = absurd (h (number v) e)
 
-is_none : (k : Option Word) (a n : Option ℕ) → Chosen k a n ≡ none → (k ≡ none) × (a ≡ none) × (n ≡ none)
+is_none : (k : Option Word) (a n : Option ℕ) → Chosen k a n ≡ None → (k ≡ None) × (a ≡ None) × (n ≡ None)
 unfolding Chosen
-is_none none none none e = (refl, refl, refl)
-is_none none none (some n) e = never cc
-is_none none (some a) n e = never cc
-is_none (some w) a n e = never cc
+is_none None None None e = (refl, refl, refl)
+is_none None None (Some n) e = never cc
+is_none None (Some a) n e = never cc
+is_none (Some w) a n e = never cc
 
 -- "an address is four decimals up to 255"
-pub addresses : (s : List ℕ) (v : ℕ) → (word_of s ≡ some (address v)) ↔ Dotted s v
+pub addresses : (s : List ℕ) (v : ℕ) → (word_of s ≡ Some (address v)) ↔ Dotted s v
 unfolding word_of Chosen
 addresses s v = (
   λ e. address_read s v (is_address (keyword keywords s) (four (octets (parts s))) (decimal 65535 s) v (λ w h. keyword_plain keywords s w rows_plain h) e),
@@ -326,7 +326,7 @@ addresses s v = (
 )
 
 -- "a port one up to 65,535, without leading zeros"
-pub port_numbers_lem : (s : List ℕ) (n : ℕ) → (word_of s ≡ some (number n)) ↔ PortNumber s n
+pub port_numbers_lem : (s : List ℕ) (n : ℕ) → (word_of s ≡ Some (number n)) ↔ PortNumber s n
 unfolding word_of Chosen
 port_numbers_lem s n = (
   λ e. read 65535 s n (is_number (keyword keywords s) (four (octets (parts s))) (decimal 65535 s) n (λ w h. keyword_plain keywords s w rows_plain h) e),
@@ -334,7 +334,7 @@ port_numbers_lem s n = (
 )
 
 -- "none of these words and no such address or port number"
-pub strangers : (s : List ℕ) → (word_of s ≡ none) ↔ ((keyword keywords s ≡ none) × ((v : ℕ) → ¬ Dotted s v) × ((n : ℕ) → ¬ PortNumber s n))
+pub strangers : (s : List ℕ) → (word_of s ≡ None) ↔ ((keyword keywords s ≡ None) × ((v : ℕ) → ¬ Dotted s v) × ((n : ℕ) → ¬ PortNumber s n))
 unfolding word_of Chosen
 strangers s = (
   λ e. let k = is_none (keyword keywords s) (four (octets (parts s))) (decimal 65535 s) e in
@@ -342,7 +342,7 @@ strangers s = (
   λ h. by (four (octets (parts s))) (decimal 65535 s) refl refl h.0 h.1 h.2,
 )
   where
-    by : (a n : Option ℕ) → four (octets (parts s)) ≡ a → decimal 65535 s ≡ n → keyword keywords s ≡ none → ((v : ℕ) → ¬ Dotted s v) → ((n : ℕ) → ¬ PortNumber s n) → word_of s ≡ none
-    by none none e f k h i = rw (k, e, f)
-    by none (some n) e f k h i = absurd (i n (read 65535 s n f))
-    by (some v) n e f k h i = absurd (h v (address_read s v e))
+    by : (a n : Option ℕ) → four (octets (parts s)) ≡ a → decimal 65535 s ≡ n → keyword keywords s ≡ None → ((v : ℕ) → ¬ Dotted s v) → ((n : ℕ) → ¬ PortNumber s n) → word_of s ≡ None
+    by None None e f k h i = rw (k, e, f)
+    by None (Some n) e f k h i = absurd (i n (read 65535 s n f))
+    by (Some v) n e f k h i = absurd (h v (address_read s v e))

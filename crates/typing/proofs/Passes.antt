@@ -1,23 +1,25 @@
 -- The file of a phrase passes checks 1 to 4, its tree is the phrase's, and read directly it says what the phrase says word by word.
+use Rattle.std.specs.Prelude.{None, Some}
+use Rattle.std.specs.Prelude.{Ok}
 use Prim.Native.Nat.{ℕ, zero, suc, ◌+◌, ◌*◌, ◌/◌, ◌%◌, ◌≤◌}
 use mathlib.Core.Path.{◌≡◌, refl, sym, ap, ap₂, ◌∙◌}
 use mathlib.Core.List.{List, [], ◌∷◌, ◌++◌, append_assoc, append-nil}
 use mathlib.Core.Bool.{false, not, ◌&&◌, ◌||◌}
-use mathlib.Core.Option.{none, some}
 use native.Mathlib.Omega.{arith}
 use native.Mathlib.Nat.{zero-add, add-zero, div-add-mod'}
 use lib.ListN.{length, length-append, get_or, drop}
 use lib.Seq.{get_or-drop, drop-drop, drop_at}
 use borrow.Author.Tests.{le-ltb, ne_eqb, eq-eqb}
-use Rattle.error.specs.Answer.{done}
 use Rattle.bpf.specs.Bytes.{be, bytes_at, long_frame}
 use Rattle.ast.specs.declared.LinkType.{LinkType}
-use Rattle.ast.specs.Tree.{Host4, Port, Expr, records}
-use Rattle.ast.specs.Record.{record_at, Node, AndNode, OrNode, NotNode, LeafNode, kinds, good, node_by, node_at}
+use Rattle.ast.specs.declared.Primitive.TheVariants.{Host4, Port}
+use Rattle.ast.specs.Tree.{Expr, records}
+use Rattle.ast.specs.declared.Node.{Node}
+use Rattle.ast.specs.declared.Node.TheVariants.{AndNode, OrNode, NotNode, LeafNode}
+use Rattle.ast.specs.Record.{record_at, kinds, good, node_by, node_at}
 use Rattle.ast.specs.File.{link_of, header, count_of, count, nodes_at, parse}
 use Rattle.ast.proofs.Prefix.{prefix}
 use Rattle.ast.proofs.Walk.{Stands, parse_of}
-use Rattle.direct.specs.declared.DirectResult.TheVariants.{Is}
 use Rattle.direct.specs.Reading.{ipv4, reads_proto, reads_primitive, reads}
 use Rattle.direct.specs.Direct.{direct}
 use Rattle.typing.specs.Words.{tcp, udp, sctp, ip, ip6, arp, rarp, icmp, src, dst, Join, and, or}
@@ -52,7 +54,7 @@ record_drop at s =
       address = bytes_drop 16 at 8 s i;
     }
 
-node_drop : (at : ℕ) (s r : List ℕ) (x : Node) → drop at s ≡ r → node_at 0 r ≡ done x → node_at at s ≡ done x
+node_drop : (at : ℕ) (s r : List ℕ) (x : Node) → drop at s ≡ r → node_at 0 r ≡ Ok x → node_at at s ≡ Ok x
 node_drop at s r x e h = ap (node_by kinds) (record_drop at s ∙ ap (record_at 0) e) ∙ h
 
 -- ---- the node of each record
@@ -60,7 +62,7 @@ node_drop at s r x e h = ap (node_by kinds) (record_drop at s ∙ ap (record_at 
 four : (a : ℕ) → ((a / 256 / 256 / 256 * 256 + a / 256 / 256 % 256) * 256 + a / 256 % 256) * 256 + a % 256 ≡ a
 four a = omega (arith, div-add-mod' a 256, div-add-mod' (a / 256) 256, div-add-mod' (a / 256 / 256) 256)
 
-term_node : (t : Term) (rest : List ℕ) → node_at 0 (term_record t ++ rest) ≡ done (LeafNode (term_leaf t))
+term_node : (t : Term) (rest : List ℕ) → node_at 0 (term_record t ++ rest) ≡ Ok (LeafNode (term_leaf t))
 unfolding node_by good record_at be bytes_at
 term_node (named ip) rest = refl
 term_node (named ip6) rest = refl
@@ -70,32 +72,32 @@ term_node (named icmp) rest = refl
 term_node (bare tcp) rest = refl
 term_node (bare udp) rest = refl
 term_node (bare sctp) rest = refl
-term_node (hosts none a) rest = ap (λ v. done (LeafNode (Host4 (dir_of none) v))) (omega (arith, four a))
-term_node (hosts (some src) a) rest = ap (λ v. done (LeafNode (Host4 (dir_of (some src)) v))) (omega (arith, four a))
-term_node (hosts (some dst) a) rest = ap (λ v. done (LeafNode (Host4 (dir_of (some dst)) v))) (omega (arith, four a))
-term_node (ports none none k) rest = ap (λ v. done (LeafNode (Port (dir_of none) (maybe_proto none) v))) (omega (arith, div-add-mod' k 256))
-term_node (ports none (some src) k) rest = ap (λ v. done (LeafNode (Port (dir_of (some src)) (maybe_proto none) v))) (omega (arith, div-add-mod' k 256))
-term_node (ports none (some dst) k) rest = ap (λ v. done (LeafNode (Port (dir_of (some dst)) (maybe_proto none) v))) (omega (arith, div-add-mod' k 256))
-term_node (ports (some tcp) none k) rest = ap (λ v. done (LeafNode (Port (dir_of none) (maybe_proto (some tcp)) v))) (omega (arith, div-add-mod' k 256))
-term_node (ports (some tcp) (some src) k) rest = ap (λ v. done (LeafNode (Port (dir_of (some src)) (maybe_proto (some tcp)) v))) (omega (arith, div-add-mod' k 256))
-term_node (ports (some tcp) (some dst) k) rest = ap (λ v. done (LeafNode (Port (dir_of (some dst)) (maybe_proto (some tcp)) v))) (omega (arith, div-add-mod' k 256))
-term_node (ports (some udp) none k) rest = ap (λ v. done (LeafNode (Port (dir_of none) (maybe_proto (some udp)) v))) (omega (arith, div-add-mod' k 256))
-term_node (ports (some udp) (some src) k) rest = ap (λ v. done (LeafNode (Port (dir_of (some src)) (maybe_proto (some udp)) v))) (omega (arith, div-add-mod' k 256))
-term_node (ports (some udp) (some dst) k) rest = ap (λ v. done (LeafNode (Port (dir_of (some dst)) (maybe_proto (some udp)) v))) (omega (arith, div-add-mod' k 256))
-term_node (ports (some sctp) none k) rest = ap (λ v. done (LeafNode (Port (dir_of none) (maybe_proto (some sctp)) v))) (omega (arith, div-add-mod' k 256))
-term_node (ports (some sctp) (some src) k) rest = ap (λ v. done (LeafNode (Port (dir_of (some src)) (maybe_proto (some sctp)) v))) (omega (arith, div-add-mod' k 256))
-term_node (ports (some sctp) (some dst) k) rest = ap (λ v. done (LeafNode (Port (dir_of (some dst)) (maybe_proto (some sctp)) v))) (omega (arith, div-add-mod' k 256))
+term_node (hosts None a) rest = ap (λ v. Ok (LeafNode (Host4 (dir_of None) v))) (omega (arith, four a))
+term_node (hosts (Some src) a) rest = ap (λ v. Ok (LeafNode (Host4 (dir_of (Some src)) v))) (omega (arith, four a))
+term_node (hosts (Some dst) a) rest = ap (λ v. Ok (LeafNode (Host4 (dir_of (Some dst)) v))) (omega (arith, four a))
+term_node (ports None None k) rest = ap (λ v. Ok (LeafNode (Port (dir_of None) (maybe_proto None) v))) (omega (arith, div-add-mod' k 256))
+term_node (ports None (Some src) k) rest = ap (λ v. Ok (LeafNode (Port (dir_of (Some src)) (maybe_proto None) v))) (omega (arith, div-add-mod' k 256))
+term_node (ports None (Some dst) k) rest = ap (λ v. Ok (LeafNode (Port (dir_of (Some dst)) (maybe_proto None) v))) (omega (arith, div-add-mod' k 256))
+term_node (ports (Some tcp) None k) rest = ap (λ v. Ok (LeafNode (Port (dir_of None) (maybe_proto (Some tcp)) v))) (omega (arith, div-add-mod' k 256))
+term_node (ports (Some tcp) (Some src) k) rest = ap (λ v. Ok (LeafNode (Port (dir_of (Some src)) (maybe_proto (Some tcp)) v))) (omega (arith, div-add-mod' k 256))
+term_node (ports (Some tcp) (Some dst) k) rest = ap (λ v. Ok (LeafNode (Port (dir_of (Some dst)) (maybe_proto (Some tcp)) v))) (omega (arith, div-add-mod' k 256))
+term_node (ports (Some udp) None k) rest = ap (λ v. Ok (LeafNode (Port (dir_of None) (maybe_proto (Some udp)) v))) (omega (arith, div-add-mod' k 256))
+term_node (ports (Some udp) (Some src) k) rest = ap (λ v. Ok (LeafNode (Port (dir_of (Some src)) (maybe_proto (Some udp)) v))) (omega (arith, div-add-mod' k 256))
+term_node (ports (Some udp) (Some dst) k) rest = ap (λ v. Ok (LeafNode (Port (dir_of (Some dst)) (maybe_proto (Some udp)) v))) (omega (arith, div-add-mod' k 256))
+term_node (ports (Some sctp) None k) rest = ap (λ v. Ok (LeafNode (Port (dir_of None) (maybe_proto (Some sctp)) v))) (omega (arith, div-add-mod' k 256))
+term_node (ports (Some sctp) (Some src) k) rest = ap (λ v. Ok (LeafNode (Port (dir_of (Some src)) (maybe_proto (Some sctp)) v))) (omega (arith, div-add-mod' k 256))
+term_node (ports (Some sctp) (Some dst) k) rest = ap (λ v. Ok (LeafNode (Port (dir_of (Some dst)) (maybe_proto (Some sctp)) v))) (omega (arith, div-add-mod' k 256))
 
 join_node : Join → Node
 join_node and = AndNode
 join_node or = OrNode
 
-join_node_lem : (j : Join) (rest : List ℕ) → node_at 0 (record_bytes (join_byte j) 0 0 0 0 ++ rest) ≡ done (join_node j)
+join_node_lem : (j : Join) (rest : List ℕ) → node_at 0 (record_bytes (join_byte j) 0 0 0 0 ++ rest) ≡ Ok (join_node j)
 unfolding node_by good record_at be bytes_at join_node
 join_node_lem and rest = refl
 join_node_lem or rest = refl
 
-not_node : (rest : List ℕ) → node_at 0 (record_bytes 3 0 0 0 0 ++ rest) ≡ done NotNode
+not_node : (rest : List ℕ) → node_at 0 (record_bytes 3 0 0 0 0 ++ rest) ≡ Ok NotNode
 unfolding node_by good record_at be bytes_at
 not_node rest = refl
 
@@ -103,9 +105,9 @@ not_node rest = refl
 
 -- the n records from a place on are good, and have these nodes
 record Has (s : List ℕ) (n at : ℕ) (ns : List Node) : Type 0 where
-  nodes : nodes_at n at s ≡ done ns
+  nodes : nodes_at n at s ≡ Ok ns
 
-nodes_next : (s : List ℕ) (n at : ℕ) (x : Node) (ns : List Node) → node_at at s ≡ done x → nodes_at n (at + 24) s ≡ done ns → nodes_at (suc n) at s ≡ done (x ∷ ns)
+nodes_next : (s : List ℕ) (n at : ℕ) (x : Node) (ns : List Node) → node_at at s ≡ Ok x → nodes_at n (at + 24) s ≡ Ok ns → nodes_at (suc n) at s ≡ Ok (x ∷ ns)
 unfolding nodes_at
 nodes_next s n at x ns e f = rw (e, f)
 
@@ -113,7 +115,7 @@ moved : (s : List ℕ) (n m at bt : ℕ) (ns : List Node) → n ≡ m → at ≡
 moved s n m at bt ns p q h = record { nodes = ap₂ (λ k c. nodes_at k c s) (sym p) (sym q) ∙ h.nodes }
 
 module _ (s : List ℕ) where
-  has_next : (r : List ℕ) (n at : ℕ) (x : Node) (ns : List Node) → drop at s ≡ r → node_at 0 r ≡ done x → Has s n (at + 24) ns → Has s (suc n) at (x ∷ ns)
+  has_next : (r : List ℕ) (n at : ℕ) (x : Node) (ns : List Node) → drop at s ≡ r → node_at 0 r ≡ Ok x → Has s n (at + 24) ns → Has s (suc n) at (x ∷ ns)
   has_next r n at x ns e h k = record { nodes = nodes_next s n at x ns (node_drop at s r x e h) k.nodes }
 
   behind : (at : ℕ) (r rest : List ℕ) → drop at s ≡ r → drop 24 r ≡ rest → drop (at + 24) s ≡ rest
@@ -212,7 +214,7 @@ pub file_header_lem : (link : ℕ) (p : Phrase) → header (file_of link p) ≡ 
 unfolding header be
 file_header_lem link p = rw (le-ltb (length (file_of link p)) 8 (omega arith), zero-add link)
 
-file_counted : (link : ℕ) (p : Phrase) → Within p → count (file_of link p) ≡ done (count_of (file_of link p))
+file_counted : (link : ℕ) (p : Phrase) → Within p → count (file_of link p) ≡ Ok (count_of (file_of link p))
 unfolding count
 file_counted link p h =
     rw (file_count link p, ne_eqb (record_count p) 0 (λ e. omega (arith, phrase_some p)), le-ltb 128 (record_count p) h.few, eq-eqb (length (file_of link p)) (8 + 24 * record_count p) (file_length link p))
@@ -226,7 +228,7 @@ file_stands link p =
     }
 
 -- "it passes 1 to 4": it is a tree file with this link and the phrase's tree
-pub passes : (link : ℕ) (l : LinkType) (p : Phrase) → link_of link ≡ done l → Within p → parse (file_of link p) ≡ done (record { link = l; tree = tree_of p })
+pub passes : (link : ℕ) (l : LinkType) (p : Phrase) → link_of link ≡ Ok l → Within p → parse (file_of link p) ≡ Ok (record { link = l; tree = tree_of p })
 passes link l p e h =
     parse_of (file_of link p) (record { link = l; tree = tree_of p })
     (record { head = file_header_lem link p ∙ e; number = file_counted link p h; tree = file_stands link p })
@@ -244,21 +246,21 @@ module _ (L : LinkType) (f : List ℕ) where
   term_reads (bare tcp) = refl
   term_reads (bare udp) = refl
   term_reads (bare sctp) = refl
-  term_reads (hosts none a) = refl
-  term_reads (hosts (some src) a) = refl
-  term_reads (hosts (some dst) a) = refl
-  term_reads (ports none none k) = refl
-  term_reads (ports none (some src) k) = refl
-  term_reads (ports none (some dst) k) = refl
-  term_reads (ports (some tcp) none k) = refl
-  term_reads (ports (some tcp) (some src) k) = refl
-  term_reads (ports (some tcp) (some dst) k) = refl
-  term_reads (ports (some udp) none k) = refl
-  term_reads (ports (some udp) (some src) k) = refl
-  term_reads (ports (some udp) (some dst) k) = refl
-  term_reads (ports (some sctp) none k) = refl
-  term_reads (ports (some sctp) (some src) k) = refl
-  term_reads (ports (some sctp) (some dst) k) = refl
+  term_reads (hosts None a) = refl
+  term_reads (hosts (Some src) a) = refl
+  term_reads (hosts (Some dst) a) = refl
+  term_reads (ports None None k) = refl
+  term_reads (ports None (Some src) k) = refl
+  term_reads (ports None (Some dst) k) = refl
+  term_reads (ports (Some tcp) None k) = refl
+  term_reads (ports (Some tcp) (Some src) k) = refl
+  term_reads (ports (Some tcp) (Some dst) k) = refl
+  term_reads (ports (Some udp) None k) = refl
+  term_reads (ports (Some udp) (Some src) k) = refl
+  term_reads (ports (Some udp) (Some dst) k) = refl
+  term_reads (ports (Some sctp) None k) = refl
+  term_reads (ports (Some sctp) (Some src) k) = refl
+  term_reads (ports (Some sctp) (Some dst) k) = refl
 
   mutual
     unfolding reads
@@ -274,7 +276,7 @@ module _ (L : LinkType) (f : List ℕ) where
     phrase_reads (two p or o) = ap₂ ◌||◌ (phrase_reads p) (operand_reads o)
 
 -- "read directly is true exactly on the frames where the line, read word by word by these rules, is"
-pub file_says : (link : ℕ) (l : LinkType) (p : Phrase) (f : List ℕ) → link_of link ≡ done l → Within p → long_frame f ≡ false
-    → direct (file_of link p) f ≡ Is (says l f p)
+pub file_says : (link : ℕ) (l : LinkType) (p : Phrase) (f : List ℕ) → link_of link ≡ Ok l → Within p → long_frame f ≡ false
+    → direct (file_of link p) f ≡ Ok (says l f p)
 unfolding direct
 file_says link l p f e h k = rw (passes link l p e h, k, phrase_reads l f p)

@@ -1,7 +1,7 @@
 -- The words of a line read from the left: the phrase that they are, or the word that cannot follow. That this is the grammar is proved in
 -- proofs/Answers: nobody needs to believe it.
+use Rattle.std.specs.Prelude.{Option, None, Some}
 use Rattle.std.specs.Prelude.{ℕ, zero, suc, List, [], ◌∷◌}
-use Rattle.std.proofs.Math.Option.{Option, none, some}
 use Rattle.typing.specs.Words.{Transport, Side, Join, Word, name, over, side, host, port, opening, closing, negate, join, address, number, Placed, known, strange}
 use Rattle.typing.specs.Phrase.{named, bare, hosts, ports, Operand, term, negated, brackets, Phrase, one, two}
 use Rattle.typing.specs.Finds.{Found, phrase, unknown, unfinished}
@@ -33,98 +33,98 @@ pub data State : Type 0 where
   full : Phrase → List Level → State  -- a whole phrase
 
 abbrev pub close : Phrase → List Level → Option State
-close p [] = none
-close p (l ∷ ls) = some (full (fill l (brackets p)) ls)
+close p [] = None
+close p (l ∷ ls) = Some (full (fill l (brackets p)) ls)
 
 abbrev pub sided_host : Option Transport → Side → Level → List Level → Option State
-sided_host none s l ls = some (hosted (some s) l ls)
-sided_host (some t) s l ls = none
+sided_host None s l ls = Some (hosted (Some s) l ls)
+sided_host (Some t) s l ls = None
 
 -- the state after a word, or none where it cannot follow
 abbrev pub step : State → Word → Option State
-step (want l ls) (name n) = some (full (fill l (term (named n))) ls)
-step (want l ls) (over t) = some (lone t l ls)
-step (want l ls) (side s) = some (sided none s l ls)
-step (want l ls) host = some (hosted none l ls)
-step (want l ls) port = some (ported none none l ls)
-step (want l ls) opening = some (want (fresh 0) (l ∷ ls))
-step (want l ls) closing = none
-step (want l ls) negate = some (want (notted l) ls)
-step (want l ls) (join j) = none
-step (want l ls) (address a) = none
-step (want l ls) (number k) = none
-step (lone t₀ l ls) (name n) = none
-step (lone t₀ l ls) (over t) = none
-step (lone t₀ l ls) (side s) = some (sided (some t₀) s l ls)
-step (lone t₀ l ls) host = none
-step (lone t₀ l ls) port = some (ported (some t₀) none l ls)
-step (lone t₀ l ls) opening = none
+step (want l ls) (name n) = Some (full (fill l (term (named n))) ls)
+step (want l ls) (over t) = Some (lone t l ls)
+step (want l ls) (side s) = Some (sided None s l ls)
+step (want l ls) host = Some (hosted None l ls)
+step (want l ls) port = Some (ported None None l ls)
+step (want l ls) opening = Some (want (fresh 0) (l ∷ ls))
+step (want l ls) closing = None
+step (want l ls) negate = Some (want (notted l) ls)
+step (want l ls) (join j) = None
+step (want l ls) (address a) = None
+step (want l ls) (number k) = None
+step (lone t₀ l ls) (name n) = None
+step (lone t₀ l ls) (over t) = None
+step (lone t₀ l ls) (side s) = Some (sided (Some t₀) s l ls)
+step (lone t₀ l ls) host = None
+step (lone t₀ l ls) port = Some (ported (Some t₀) None l ls)
+step (lone t₀ l ls) opening = None
 step (lone t₀ l ls) closing = close (fill l (term (bare t₀))) ls
-step (lone t₀ l ls) negate = none
-step (lone t₀ l ls) (join j) = some (want (after (fill l (term (bare t₀))) j 0) ls)
-step (lone t₀ l ls) (address a) = none
-step (lone t₀ l ls) (number k) = none
-step (sided t₀ s₀ l ls) (name n) = none
-step (sided t₀ s₀ l ls) (over t) = none
-step (sided t₀ s₀ l ls) (side s) = none
+step (lone t₀ l ls) negate = None
+step (lone t₀ l ls) (join j) = Some (want (after (fill l (term (bare t₀))) j 0) ls)
+step (lone t₀ l ls) (address a) = None
+step (lone t₀ l ls) (number k) = None
+step (sided t₀ s₀ l ls) (name n) = None
+step (sided t₀ s₀ l ls) (over t) = None
+step (sided t₀ s₀ l ls) (side s) = None
 step (sided t₀ s₀ l ls) host = sided_host t₀ s₀ l ls
-step (sided t₀ s₀ l ls) port = some (ported t₀ (some s₀) l ls)
-step (sided t₀ s₀ l ls) opening = none
-step (sided t₀ s₀ l ls) closing = none
-step (sided t₀ s₀ l ls) negate = none
-step (sided t₀ s₀ l ls) (join j) = none
-step (sided t₀ s₀ l ls) (address a) = none
-step (sided t₀ s₀ l ls) (number k) = none
-step (hosted s₀ l ls) (name n) = none
-step (hosted s₀ l ls) (over t) = none
-step (hosted s₀ l ls) (side s) = none
-step (hosted s₀ l ls) host = none
-step (hosted s₀ l ls) port = none
-step (hosted s₀ l ls) opening = none
-step (hosted s₀ l ls) closing = none
-step (hosted s₀ l ls) negate = none
-step (hosted s₀ l ls) (join j) = none
-step (hosted s₀ l ls) (address a) = some (full (fill l (term (hosts s₀ a))) ls)
-step (hosted s₀ l ls) (number k) = none
-step (ported t₀ s₀ l ls) (name n) = none
-step (ported t₀ s₀ l ls) (over t) = none
-step (ported t₀ s₀ l ls) (side s) = none
-step (ported t₀ s₀ l ls) host = none
-step (ported t₀ s₀ l ls) port = none
-step (ported t₀ s₀ l ls) opening = none
-step (ported t₀ s₀ l ls) closing = none
-step (ported t₀ s₀ l ls) negate = none
-step (ported t₀ s₀ l ls) (join j) = none
-step (ported t₀ s₀ l ls) (address a) = none
-step (ported t₀ s₀ l ls) (number k) = some (full (fill l (term (ports t₀ s₀ k))) ls)
-step (full p ls) (name n) = none
-step (full p ls) (over t) = none
-step (full p ls) (side s) = none
-step (full p ls) host = none
-step (full p ls) port = none
-step (full p ls) opening = none
+step (sided t₀ s₀ l ls) port = Some (ported t₀ (Some s₀) l ls)
+step (sided t₀ s₀ l ls) opening = None
+step (sided t₀ s₀ l ls) closing = None
+step (sided t₀ s₀ l ls) negate = None
+step (sided t₀ s₀ l ls) (join j) = None
+step (sided t₀ s₀ l ls) (address a) = None
+step (sided t₀ s₀ l ls) (number k) = None
+step (hosted s₀ l ls) (name n) = None
+step (hosted s₀ l ls) (over t) = None
+step (hosted s₀ l ls) (side s) = None
+step (hosted s₀ l ls) host = None
+step (hosted s₀ l ls) port = None
+step (hosted s₀ l ls) opening = None
+step (hosted s₀ l ls) closing = None
+step (hosted s₀ l ls) negate = None
+step (hosted s₀ l ls) (join j) = None
+step (hosted s₀ l ls) (address a) = Some (full (fill l (term (hosts s₀ a))) ls)
+step (hosted s₀ l ls) (number k) = None
+step (ported t₀ s₀ l ls) (name n) = None
+step (ported t₀ s₀ l ls) (over t) = None
+step (ported t₀ s₀ l ls) (side s) = None
+step (ported t₀ s₀ l ls) host = None
+step (ported t₀ s₀ l ls) port = None
+step (ported t₀ s₀ l ls) opening = None
+step (ported t₀ s₀ l ls) closing = None
+step (ported t₀ s₀ l ls) negate = None
+step (ported t₀ s₀ l ls) (join j) = None
+step (ported t₀ s₀ l ls) (address a) = None
+step (ported t₀ s₀ l ls) (number k) = Some (full (fill l (term (ports t₀ s₀ k))) ls)
+step (full p ls) (name n) = None
+step (full p ls) (over t) = None
+step (full p ls) (side s) = None
+step (full p ls) host = None
+step (full p ls) port = None
+step (full p ls) opening = None
 step (full p ls) closing = close p ls
-step (full p ls) negate = none
-step (full p ls) (join j) = some (want (after p j 0) ls)
-step (full p ls) (address a) = none
-step (full p ls) (number k) = none
+step (full p ls) negate = None
+step (full p ls) (join j) = Some (want (after p j 0) ls)
+step (full p ls) (address a) = None
+step (full p ls) (number k) = None
 
 abbrev pub ended : Phrase → List Level → Option Phrase
-ended p [] = some p
-ended p (l ∷ ls) = none
+ended p [] = Some p
+ended p (l ∷ ls) = None
 
 -- the phrase, where the words may end
 abbrev pub final : State → Option Phrase
-final (want l ls) = none
+final (want l ls) = None
 final (lone t l ls) = ended (fill l (term (bare t))) ls
-final (sided t s l ls) = none
-final (hosted s l ls) = none
-final (ported t s l ls) = none
+final (sided t s l ls) = None
+final (hosted s l ls) = None
+final (ported t s l ls) = None
 final (full p ls) = ended p ls
 
 abbrev pub ends : ℕ → Option Phrase → Found
-ends end none = unfinished end
-ends end (some p) = phrase p
+ends end None = unfinished end
+ends end (Some p) = phrase p
 
 abbrev pub start : State
 start = want (fresh 0) []
@@ -133,4 +133,4 @@ start = want (fresh 0) []
 unfoldable pub scan : ℕ → State → List Placed → Found
 scan end st [] = ends end (final st)
 scan end st (strange k ∷ ws) = unknown k
-scan end st (known k w ∷ ws) = elim (step st w) [ none ↦ unfinished k | some st' ↦ scan end st' ws ]
+scan end st (known k w ∷ ws) = elim (step st w) [ None ↦ unfinished k | Some st' ↦ scan end st' ws ]

@@ -1,24 +1,20 @@
 -- T-04, the grammar of a typed line: what may be said, its words, and what it says of a frame. Nothing here reads a line.
+use Rattle.std.specs.Prelude.{Option, None, Some}
 use Rattle.std.specs.Prelude.{ℕ, suc, ◌+◌, ◌/◌, ◌%◌, ◌≤◌, max, List, [], ◌∷◌, ◌++◌, Bool, not, ◌&&◌, ◌||◌, eqb}
-use Rattle.std.proofs.Math.Option.{Option, none, some}
 use Rattle.bpf.specs.Bytes.{be}
 use Rattle.ast.specs.declared.LinkType.{LinkType}
 use Rattle.ast.specs.declared.Dir.{Dir}
 use Rattle.ast.specs.declared.Dir.TheVariants.{SrcOrDst, Src, Dst}
-use Rattle.ast.specs.Tree.{Proto, Ip, Ip6, Arp, Rarp, Tcp, Udp, Icmp, Sctp}
-use Rattle.ast.specs.Tree.{Primitive, Protocol, Host4, Port}
+use Rattle.ast.specs.declared.Proto.{Proto}
+use Rattle.ast.specs.declared.Proto.TheVariants.{Ip, Ip6, Arp, Rarp, Tcp, Udp, Icmp, Sctp}
+use Rattle.ast.specs.declared.Primitive.{Primitive}
+use Rattle.ast.specs.declared.Primitive.TheVariants.{Protocol, Host4, Port}
 use Rattle.ast.specs.Tree.{Expr, Leaf, And, Or, Not}
 use Rattle.direct.specs.Reading.{network_start, kind, transport}
+pub use Rattle.typing.specs.declared.Term.{Term}
+pub use Rattle.typing.specs.declared.Term.TheVariants.{Named as named, Bare as bare, Hosts as hosts, Ports as ports}
 use Rattle.typing.specs.Words.{Transport, tcp, udp, sctp, Name, ip, ip6, arp, rarp, icmp, Side, src, dst, Join, and, or}
 use Rattle.typing.specs.Words.{Word, name, over, side, host, port, opening, closing, negate, join, address, number}
-
--- "Accept ip, ip6, arp, rarp, tcp, udp, sctp, icmp, `host` with a dotted address, `port` with a number, src or dst before host or port,
--- tcp, udp or sctp before port or before its direction"
-pub data Term : Type 0 where
-  named : Name → Term
-  bare : Transport → Term
-  hosts : Option Side → ℕ → Term
-  ports : Option Transport → Option Side → ℕ → Term
 
 -- "brackets, not, and, or": "not binds tightest, and and or bind equally and join from the left". So a not stands before a term, a not or
 -- brackets, and what stands right of an and or an or has no other join outside brackets.
@@ -35,8 +31,8 @@ mutual
 -- ---- the words
 
 abbrev pub maybe : {A : Type 0} → (A → Word) → Option A → List Word
-maybe f none = []
-maybe f (some a) = f a ∷ []
+maybe f None = []
+maybe f (Some a) = f a ∷ []
 
 abbrev pub term_words : Term → List Word
 term_words (named n) = name n ∷ []
@@ -85,16 +81,16 @@ pub record Within (p : Phrase) : Type 0 where
 
 -- of a test of the source and one of the destination
 abbrev pub on_side : Option Side → Bool → Bool → Bool
-on_side none s d = s || d
-on_side (some src) s d = s
-on_side (some dst) s d = d
+on_side None s d = s || d
+on_side (Some src) s d = s
+on_side (Some dst) s d = d
 
 -- IPv4's protocol and IPv6's next header before a port; none is TCP or UDP
 abbrev pub carries : Option Transport → ℕ → Bool
-carries none q = eqb q 6 || eqb q 17
-carries (some tcp) q = eqb q 6
-carries (some udp) q = eqb q 17
-carries (some sctp) q = eqb q 132
+carries None q = eqb q 6 || eqb q 17
+carries (Some tcp) q = eqb q 6
+carries (Some udp) q = eqb q 17
+carries (Some sctp) q = eqb q 132
 
 module _ (L : LinkType) (f : List ℕ) where
   abbrev n : ℕ
@@ -137,9 +133,9 @@ module _ (L : LinkType) (f : List ℕ) where
 
 -- "direction 0 where none is typed"
 abbrev pub dir_of : Option Side → Dir
-dir_of none = SrcOrDst
-dir_of (some src) = Src
-dir_of (some dst) = Dst
+dir_of None = SrcOrDst
+dir_of (Some src) = Src
+dir_of (Some dst) = Dst
 
 abbrev pub transport_proto : Transport → Proto
 transport_proto tcp = Tcp
@@ -147,8 +143,8 @@ transport_proto udp = Udp
 transport_proto sctp = Sctp
 
 abbrev pub maybe_proto : Option Transport → Option Proto
-maybe_proto none = none
-maybe_proto (some t) = some (transport_proto t)
+maybe_proto None = None
+maybe_proto (Some t) = Some (transport_proto t)
 
 abbrev pub name_proto : Name → Proto
 name_proto ip = Ip
@@ -194,9 +190,9 @@ abbrev pub record_bytes : ℕ → ℕ → ℕ → ℕ → ℕ → List ℕ
 record_bytes k d p a v = k ∷ d ∷ p ∷ 0 ∷ (two_bytes a ++ (0 ∷ 0 ∷ (four_bytes v ++ zeros 12)))
 
 abbrev pub dir_byte : Option Side → ℕ
-dir_byte none = 0
-dir_byte (some src) = 1
-dir_byte (some dst) = 2
+dir_byte None = 0
+dir_byte (Some src) = 1
+dir_byte (Some dst) = 2
 
 abbrev pub name_byte : Name → ℕ
 name_byte ip = 1
@@ -211,8 +207,8 @@ transport_byte udp = 6
 transport_byte sctp = 10
 
 abbrev pub maybe_byte : Option Transport → ℕ
-maybe_byte none = 0
-maybe_byte (some t) = transport_byte t
+maybe_byte None = 0
+maybe_byte (Some t) = transport_byte t
 
 abbrev pub term_record : Term → List ℕ
 term_record (named w) = record_bytes 10 0 (name_byte w) 0 0

@@ -1,31 +1,18 @@
 -- T-04, the words of a typed line, each with the byte where it starts.
+use Rattle.std.specs.Prelude.{Option, None, Some}
 use Rattle.std.specs.Prelude.{ℕ, ◌+◌, ◌*◌, ◌-◌, ◌≡◌, List, [], ◌∷◌, Bool, true, false, cond, not, ◌&&◌, ◌||◌, length, eqb, leb}
-use Rattle.std.proofs.Math.Option.{Option, none, some}
 use Rattle.bpf.specs.Bytes.{be}
-
--- ---- words
-
--- "Accept ip, ip6, arp, rarp, tcp, udp, sctp, icmp": "tcp, udp or sctp" may stand before a port, and the others not
-pub data Transport : Type 0 where
-  tcp udp sctp : Transport
-
-pub data Name : Type 0 where
-  ip ip6 arp rarp icmp : Name
-
-pub data Side : Type 0 where
-  src dst : Side
-
-pub data Join : Type 0 where
-  and or : Join
-
-pub data Word : Type 0 where
-  name : Name → Word
-  over : Transport → Word
-  side : Side → Word
-  host port opening closing negate : Word
-  join : Join → Word
-  address : ℕ → Word  -- a number of 32 bits
-  number : ℕ → Word  -- a port
+-- the words are enums of the code; here they are written small, as they are typed
+pub use Rattle.typing.specs.declared.Transport.{Transport}
+pub use Rattle.typing.specs.declared.Transport.TheVariants.{Tcp as tcp, Udp as udp, Sctp as sctp}
+pub use Rattle.typing.specs.declared.Name.{Name}
+pub use Rattle.typing.specs.declared.Name.TheVariants.{Ip as ip, Ip6 as ip6, Arp as arp, Rarp as rarp, Icmp as icmp}
+pub use Rattle.typing.specs.declared.Side.{Side}
+pub use Rattle.typing.specs.declared.Side.TheVariants.{Src as src, Dst as dst}
+pub use Rattle.typing.specs.declared.Join.{Join}
+pub use Rattle.typing.specs.declared.Join.TheVariants.{And as and, Or as or}
+pub use Rattle.typing.specs.declared.Word.{Word}
+pub use Rattle.typing.specs.declared.Word.TheVariants.{Name as name, Over as over, Side as side, Host as host, Port as port, Opening as opening, Closing as closing, Negate as negate, Join as join, Address as address, Number as number}
 
 -- ---- the bytes of a word
 
@@ -64,8 +51,8 @@ same (a ∷ s) [] = false
 same (a ∷ s) (b ∷ t) = eqb a b && same s t
 
 abbrev pub keyword : List Row → List ℕ → Option Word
-keyword [] s = none
-keyword (k ∷ ks) s = cond (same k.text s) (some k.word) (keyword ks s)
+keyword [] s = None
+keyword (k ∷ ks) s = cond (same k.text s) (Some k.word) (keyword ks s)
 
 -- "four decimals up to 255, a port one up to 65,535, without leading zeros"
 abbrev pub digit : ℕ → Bool
@@ -86,9 +73,9 @@ empty (c ∷ s) = false
 
 -- a decimal number up to a limit: digits, at least one, and a 0 in front only if it is alone
 abbrev pub decimal : ℕ → List ℕ → Option ℕ
-decimal most [] = none
+decimal most [] = None
 decimal most (c ∷ s) =
-    cond (digits (c ∷ s) && ((not (eqb c 48) || empty s) && leb (value 0 (c ∷ s)) most)) (some (value 0 (c ∷ s))) none
+    cond (digits (c ∷ s) && ((not (eqb c 48) || empty s) && leb (value 0 (c ∷ s)) most)) (Some (value 0 (c ∷ s))) None
 
 -- what stands between the dots
 abbrev pub onto : ℕ → List (List ℕ) → List (List ℕ)
@@ -100,26 +87,26 @@ parts [] = [] ∷ []
 parts (c ∷ s) = let ps = parts s in cond (eqb c 46) ([] ∷ ps) (onto c ps)
 
 abbrev pub before : Option ℕ → Option (List ℕ) → Option (List ℕ)
-before none bs = none
-before (some b) none = none
-before (some b) (some bs) = some (b ∷ bs)
+before None bs = None
+before (Some b) None = None
+before (Some b) (Some bs) = Some (b ∷ bs)
 
 abbrev pub octets : List (List ℕ) → Option (List ℕ)
-octets [] = some []
+octets [] = Some []
 octets (p ∷ ps) = before (decimal 255 p) (octets ps)
 
 -- four of them are a number of 32 bits
 abbrev pub four : Option (List ℕ) → Option ℕ
-four none = none
-four (some bs) = cond (eqb (length bs) 4) (some (be 4 0 bs)) none
+four None = None
+four (Some bs) = cond (eqb (length bs) 4) (Some (be 4 0 bs)) None
 
 abbrev pub either : Option Word → Option Word → Option Word
-either none o = o
-either (some w) o = some w
+either None o = o
+either (Some w) o = Some w
 
 abbrev pub made : (ℕ → Word) → Option ℕ → Option Word
-made f none = none
-made f (some n) = some (f n)
+made f None = None
+made f (Some n) = Some (f n)
 
 -- a word by its bytes; none is "none of these words and no such address or port number"
 unfoldable pub word_of : List ℕ → Option Word
@@ -147,8 +134,8 @@ pub data Placed : Type 0 where
   strange : ℕ → Placed
 
 abbrev pub spotted : ℕ → Option Word → Placed
-spotted at none = strange at
-spotted at (some w) = known at w
+spotted at None = strange at
+spotted at (Some w) = known at w
 
 -- The words of a line whose first byte has a place, and stands after a byte of a word or not:
 -- a word starts at each byte of a word that does not stand after another

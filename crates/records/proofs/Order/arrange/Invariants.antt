@@ -1,0 +1,9 @@
+use Rattle.std.proofs.Common.{length}
+use Rattle.records.proofs.Slices.{Arranging}
+use Rattle.records.proofs.Order.arrange.Given as goal
+
+abbrev pub invariant-loop-left : goal.invariant-loop-left
+invariant-loop-left l = Arranging l.items l.left l.self
+
+abbrev pub decreases-loop-left : goal.decreases-loop-left
+decreases-loop-left l = length l.left
