@@ -10,11 +10,22 @@
 // has no lent buffer.
 #![tactic(auto)]
 
-ghost use Rattle.std.specs.Prelude.{◌<◌, ◌≤◌, IfOk, length};
+ghost use Rattle.std.specs.Prelude.{◌<◌};
 
-use std::io;
+use std::alloc::Global;
+use std::fmt::{Display, Formatter};
 use std::io::{BufReader, BufWriter, Read, Write};
-use std::num::wrapping_add_u64;
+use std::{fmt, io};
+
+const GROUPS: [&str; 7] = [
+    "conditions",
+    "pairs",
+    "ports",
+    "random",
+    "far jumps",
+    "large",
+    "damaged",
+];
 
 // What a buffer holds before it is lent, and what has to stay behind the lent part.
 const FILLED: u8 = 0x5a;
@@ -25,387 +36,313 @@ const MOST: usize = 32768;
 // The refusals of a build are below this.
 const REFUSALS: usize = 16;
 
-// How many builds had a count, then by its number how many had each refusal, then how many differ.
-type Tally = [u64; 17];
+// "fewer than 8 × instructions bytes lent"
+const SHORT_BUFFER: u32 = 9;
 
-// The stored answer, and the tree file's length.
+// ---- answers
+
+// A build's answer as C has it: the count, or the refusal's number times 65,536.
+#[derive(Clone, Copy, Debug, PartialEq, Eq)]
+struct Answer(u32);
+
+// No build answers what is answered where the bytes are too few to be lent.
+const TOO_FEW: Answer = Answer(u32::MAX);
+
+impl Answer {
+    fn of_refusal(number: u32) -> Answer
+        requires { number < 256 }
+    {
+        Answer(number * 65536)
+    }
+
+    // The refusal's number, or 0.
+    fn refusal(self) -> u32 {
+        self.0 / 65536
+    }
+}
+
+impl Display for Answer {
+    fn fmt<W: fmt::Write>(&self, f: &mut Formatter<W>) -> fmt::Result {
+        match self.refusal() {
+            0 => write!(f, "count {}", self.0),
+            number => write!(f, "refused {number}"),
+        }
+    }
+}
+
+// How a build differs: the answers, and the first wrong byte, which is past the buffer's end where the answer alone is wrong.
 #[derive(Clone, Copy)]
-struct Case {
-    refusal: u32,
-    count: u32,
-    file: usize,
-}
-
-// ---- the output
-
-fn text<W: Write>(out: &mut W, s: &[u8]) -> io::Result<()> {
-    out.write_all(s)
-}
-
-fn number<W: Write>(out: &mut W, n: u64) -> io::Result<()> {
-    write!(out, "{n}")
-}
-
-fn print_answer<W: Write>(out: &mut W, answer: u32) -> io::Result<()> {
-    if answer < 65536 {
-        text(out, b"count ")?;
-        return number(out, answer as u64);
-    }
-    text(out, b"refused ")?;
-    number(out, (answer / 65536) as u64)
-}
-
-// The answer here, the wanted one, and the first wrong byte, which is past the buffer's end where the answer alone is wrong.
-fn print_difference<W: Write>(
-    out: &mut W,
+struct Difference {
     lent: usize,
-    here: u32,
-    answer: u32,
+    here: Answer,
+    wanted: Answer,
     wrong: usize,
-) -> io::Result<()> {
-    number(out, lent as u64)?;
-    text(out, b" bytes lent: ")?;
-    print_answer(out, here)?;
-    text(out, b", wanted ")?;
-    print_answer(out, answer)?;
-    text(out, b", first wrong byte ")?;
-    number(out, wrong as u64)?;
-    text(out, b"\n")
 }
 
-fn print_place<W: Write>(out: &mut W, group: &[u8], index: usize) -> io::Result<()> {
-    text(out, group)?;
-    text(out, b" ")?;
-    number(out, index as u64)
-}
-
-// A refusal that no build had is left out.
-fn print_refusal<W: Write>(out: &mut W, refusal: usize, builds: u64) -> io::Result<()> {
-    if builds == 0 {
-        return Ok(());
+impl Display for Difference {
+    fn fmt<W: fmt::Write>(&self, f: &mut Formatter<W>) -> fmt::Result {
+        let Difference {
+            lent,
+            here,
+            wanted,
+            wrong,
+        } = *self;
+        write!(
+            f,
+            "{lent} bytes lent: {here}, wanted {wanted}, first wrong byte {wrong}"
+        )
     }
-    text(out, b"refused ")?;
-    number(out, refusal as u64)?;
-    text(out, b": ")?;
-    number(out, builds)?;
-    text(out, b"\n")
-}
-
-fn print_refusals<W: Write>(out: &mut W, tally: &Tally) -> io::Result<()> {
-    for i in 1..REFUSALS {
-        print_refusal(out, i, tally[i])?;
-    }
-    Ok(())
 }
 
 // ---- the tally
 
-fn add(tally: &mut Tally, i: usize)
-    requires { i < 17 }
-{
-    tally[i] = wrapping_add_u64(tally[i], 1);
+// How many builds had a count, how many had each refusal by its number, and how many differ.
+#[derive(Clone, Copy, Default)]
+struct Tally {
+    counts: u64,
+    refused: [u64; REFUSALS],
+    differences: u64,
 }
 
-// The place of an answer: 0 for a count, else the refusal's number.
-fn place_of(answer: u32) -> usize
-    ensures { result < 16 }
-{
-    let refusal = (answer / 65536) as usize;
-    if refusal < REFUSALS {
-        return refusal;
+impl Tally {
+    fn add(&mut self, answer: Answer) {
+        let number = answer.refusal() as usize;
+        if number == 0 || number >= REFUSALS {
+            self.counts = self.counts.saturating_add(1);
+        } else {
+            self.refused[number] = self.refused[number].saturating_add(1);
+        }
     }
-    0
+
+    fn differs(&mut self) {
+        self.differences = self.differences.saturating_add(1);
+    }
+}
+
+// A refusal that no build had is left out.
+impl Display for Tally {
+    fn fmt<W: fmt::Write>(&self, f: &mut Formatter<W>) -> fmt::Result {
+        let Tally {
+            counts,
+            refused,
+            differences,
+        } = *self;
+        write!(f, "counts: {counts}\n")?;
+        let mut compared = counts;
+        for (number, builds) in refused.iter().enumerate() {
+            let builds = *builds;
+            compared = compared.saturating_add(builds);
+            if builds > 0 {
+                write!(f, "refused {number}: {builds}\n")?;
+            }
+        }
+        write!(f, "{compared} compared, {differences} differences\n")
+    }
 }
 
 // ---- a build
 
 // The byte that a place has to hold: the program's, zero up to the lent part's end, then what was there.
 fn wanted(program: &[u8], lent: usize, i: usize) -> u8 {
-    if i < program.len() {
-        return program[i];
+    match program.get(i) {
+        Some(byte) => *byte,
+        None if i < lent => 0,
+        None => FILLED,
     }
-    if i < lent {
-        return 0;
-    }
-    FILLED
 }
 
 // The first place with another byte, or the buffer's end.
 fn first_wrong(buffer: &[u8], program: &[u8], lent: usize) -> usize {
-    for (i, b) in buffer.iter().enumerate() {
-        if *b != wanted(program, lent, i) {
-            return i;
-        }
-    }
-    buffer.len()
+    buffer
+        .iter()
+        .enumerate()
+        .position(|(i, byte)| *byte != wanted(program, lent, i))
+        .unwrap_or(buffer.len())
 }
 
-// The answer of a build into the first bytes of a buffer. No build answers what is answered where they are too few.
-fn build_into(file: &[u8], buffer: &mut [u8], lent: usize) -> u32 {
-    if buffer.len() < lent {
-        return u32::MAX;
+// The answer of a build into the first bytes of a buffer.
+fn build_into(file: &[u8], buffer: &mut [u8], lent: usize) -> Answer {
+    match buffer.get_mut(..lent) {
+        Some(part) => Answer(pft::pft_build(file, part)),
+        None => TOO_FEW,
     }
-    pft::pft_build(file, &mut buffer[0..lent])
-}
-
-// What a build into so many bytes has to answer.
-fn answer_of(c: Case, lent: usize) -> u32
-    requires refusal { c.refusal < 65536 }
-    requires count { c.count < 65536 }
-{
-    if c.refusal != 0 {
-        return c.refusal * 65536;
-    }
-    if lent < 8 * c.count as usize {
-        return 9 * 65536;
-    }
-    c.count
-}
-
-// The bytes of the program that a build with this answer has to leave.
-fn left_of(program: &[u8], answer: u32) -> &[u8] {
-    if answer < 65536 {
-        return program;
-    }
-    first(program, 0)
-}
-
-// Answers whether the build into so many bytes is as it has to be; else the difference is printed.
-fn is_right<W: Write>(
-    out: &mut W,
-    file: &[u8],
-    program: &[u8],
-    lent: usize,
-    answer: u32,
-) -> io::Result<bool> {
-    let mut buffer = [FILLED; 32784];
-    let here = build_into(file, &mut buffer, lent);
-    let wrong = first_wrong(&buffer, left_of(program, answer), lent);
-    if here == answer && wrong == buffer.len() {
-        return Ok(true);
-    }
-    print_difference(out, lent, here, answer, wrong)?;
-    Ok(false)
 }
 
 // ---- a case
 
-// How many bytes are lent, by turns: exactly enough, more, one too few, none, all.
-fn lent_of(turn: u32, exact: usize, index: usize) -> usize
-    requires { exact < 1048576 }
-{
-    match turn {
-        0 => exact,
-        1 => exact + 1 + index % 16,
-        2 => less(exact),
-        3 => 0,
-        _ => MOST,
-    }
+// The stored answer, and the tree file's length.
+#[derive(Clone, Copy)]
+struct Head {
+    refusal: u8,
+    count: u16,
+    file: u16,
 }
 
-fn less(n: usize) -> usize {
-    if n == 0 {
-        return 0;
-    }
-    n - 1
-}
-
-// As many as a program needs; a file that is refused has 0 to 599 for that.
-fn exact_of(c: Case, index: usize) -> usize
-    requires { c.count < 65536 }
-    ensures { result < 1048576 }
-{
-    if c.refusal != 0 {
-        return index % 600;
-    }
-    8 * c.count as usize
-}
-
-fn try_length<W: Write>(
-    out: &mut W,
-    file: &[u8],
-    program: &[u8],
-    c: Case,
-    lent: usize,
-    tally: &mut Tally,
-) -> io::Result<bool>
-    requires refusal { c.refusal < 65536 }
-    requires count { c.count < 65536 }
-{
-    let answer = answer_of(c, lent);
-    add(tally, place_of(answer));
-    if is_right(out, file, program, lent, answer)? {
-        return Ok(true);
-    }
-    add(tally, REFUSALS);
-    Ok(false)
-}
-
-// A build of every length; answers whether none differs.
-fn try_lengths<W: Write>(
-    out: &mut W,
-    file: &[u8],
-    program: &[u8],
-    c: Case,
-    index: usize,
-    tally: &mut Tally,
-) -> io::Result<bool>
-    requires refusal { c.refusal < 65536 }
-    requires count { c.count < 65536 }
-{
-    let exact = exact_of(c, index);
-    let mut good = true;
-    for turn in 0..5 {
-        good = try_length(out, file, program, c, lent_of(turn, exact, index), tally)? && good;
-    }
-    Ok(good)
-}
-
-fn half(high: u8, low: u8) -> u32
-    ensures { result < 65536 }
-{
-    high as u32 * 256 + low as u32
-}
-
-fn case_of(h: &[u8; 5]) -> Case
-    ensures refusal { result.refusal < 65536 }
-    ensures count { result.count < 65536 }
-{
-    Case {
-        refusal: half(0, h[0]),
-        count: half(h[1], h[2]),
-        file: half(h[3], h[4]) as usize,
-    }
-}
-
-// Reads to the front of a buffer, until it is full or the input ends, and answers how many bytes came.
-fn read_full<R: Read>(input: &mut R, buffer: &mut [u8]) -> usize
-    ensures { result ≤ length buffer.new }
-{
-    let mut done = 0;
-    while done < buffer.len() {
-        match input.read(&mut buffer[done..]) {
-            Ok(0) | Err(_) => break,
-            Ok(n) => done += n,
+impl From<[u8; 5]> for Head {
+    fn from(h: [u8; 5]) -> Head {
+        Head {
+            refusal: h[0],
+            count: u16::from_be_bytes([h[1], h[2]]),
+            file: u16::from_be_bytes([h[3], h[4]]),
         }
     }
-    done
 }
 
-// Reads so many bytes to the front of a buffer. False: it is too small, or the input ends.
-fn fill<R: Read>(input: &mut R, buffer: &mut [u8], n: usize) -> bool {
-    if buffer.len() < n {
-        return false;
-    }
-    let got = read_full(input, &mut buffer[0..n]);
-    got == n
-}
-
-// The first n bytes.
-fn first(buffer: &[u8], n: usize) -> &[u8] {
-    if n <= buffer.len() {
-        &buffer[0..n]
-    } else {
-        buffer
-    }
-}
-
-// What cannot be read is a difference.
-fn unread<W: Write>(out: &mut W, group: &[u8], index: usize, tally: &mut Tally) -> io::Result<()> {
-    add(tally, REFUSALS);
-    print_place(out, group, index)?;
-    text(out, b": the case cannot be read\n")
-}
-
-fn replay<R: Read, W: Write>(
-    input: &mut R,
-    out: &mut W,
-    group: &[u8],
+// A tree file with its number in its group, and the stored answer and program.
+#[derive(Drop)]
+struct Case {
     index: usize,
-    tally: &mut Tally,
-) -> io::Result<()> {
-    let mut head = [0u8; 5];
-    if !fill(input, &mut head, 5) {
-        return unread(out, group, index, tally);
-    }
-    let c = case_of(&head);
-    let mut file = [0u8; 4096];
-    let mut program = [0u8; 32768];
-    let length = 8 * c.count as usize;
-    if !fill(input, &mut file, c.file) || !fill(input, &mut program, length) {
-        return unread(out, group, index, tally);
-    }
-    if try_lengths(
-        out,
-        first(&file, c.file),
-        first(&program, length),
-        c,
-        index,
-        tally,
-    )? {
-        return Ok(());
-    }
-    print_place(out, group, index)?;
-    text(out, b" differs\n")
+    head: Head,
+    file: Vec<u8>,
+    program: Vec<u8>,
 }
 
-// ---- the groups
-
-fn replay_cases<R: Read, W: Write>(
-    input: &mut R,
-    out: &mut W,
-    group: &[u8],
-    count: usize,
-    tally: &mut Tally,
-) -> io::Result<()> {
-    for index in 0..count {
-        replay(input, out, group, index, tally)?;
+impl Head {
+    // How many bytes the program has.
+    fn size(self) -> usize {
+        8 * usize::from(self.count)
     }
-    Ok(())
 }
 
-fn replay_group<R: Read, W: Write>(
-    input: &mut R,
-    out: &mut W,
-    group: &[u8],
-    tally: &mut Tally,
-) -> io::Result<()> {
-    let mut head = [0u8; 2];
-    read_full(input, &mut head);
-    let count = half(head[0], head[1]) as usize;
-    replay_cases(input, out, group, count, tally)?;
-    text(out, group)?;
-    text(out, b": ")?;
-    number(out, count as u64)?;
-    text(out, b" files\n")
+impl Case {
+    // As many bytes as a program needs; a file that is refused has 0 to 599 for that.
+    fn exact(&self) -> usize {
+        if self.head.refusal != 0 {
+            return self.index % 600;
+        }
+        self.head.size()
+    }
+
+    // How many bytes are lent: exactly enough, more, one too few, none, all.
+    fn lengths(&self) -> [usize; 5] {
+        let exact = self.exact();
+        let more = exact.saturating_add(1 + self.index % 16);
+        [exact, more, exact.saturating_sub(1), 0, MOST]
+    }
+
+    // What a build into so many bytes has to answer.
+    fn answer(&self, lent: usize) -> Answer {
+        let Head { refusal, count, .. } = self.head;
+        if refusal != 0 {
+            return Answer::of_refusal(u32::from(refusal));
+        }
+        if lent < self.head.size() {
+            return Answer::of_refusal(SHORT_BUFFER);
+        }
+        Answer(u32::from(count))
+    }
+
+    // How the build into so many bytes differs from what it has to be.
+    fn difference(&self, lent: usize) -> Option<Difference> {
+        let mut buffer = [FILLED; 32784];
+        let here = build_into(&self.file, &mut buffer, lent);
+        let wanted = self.answer(lent);
+        let program = match wanted.refusal() {
+            0 => self.program.as_slice(),
+            _ => &[],
+        };
+        let wrong = first_wrong(&buffer, program, lent);
+        if here == wanted && wrong == buffer.len() {
+            return None;
+        }
+        Some(Difference {
+            lent,
+            here,
+            wanted,
+            wrong,
+        })
+    }
 }
 
-fn sum(tally: &Tally) -> u64 {
-    let mut total = 0;
-    for i in 0..REFUSALS {
-        total = wrapping_add_u64(total, tally[i]);
+// ---- the replay
+
+// Each of the two replays has its own: what they share is the reading of a count and of some bytes.
+#[derive(Drop)]
+struct Replay<R, W> {
+    alloc: Global,
+    input: R,
+    out: W,
+    tally: Tally,
+}
+
+impl<R: Read, W: Write> Replay<R, W> {
+    fn bytes(&mut self, size: usize) -> io::Result<Vec<u8>> {
+        let mut bytes = vec![in self.alloc; 0; size]?;
+        self.input.read_exact(&mut bytes)?;
+        Ok(bytes)
     }
-    total
+
+    fn next(&mut self, index: usize) -> io::Result<Case> {
+        let mut head = [0u8; 5];
+        self.input.read_exact(&mut head)?;
+        let head = Head::from(head);
+        let file = self.bytes(usize::from(head.file))?;
+        let program = self.bytes(head.size())?;
+        Ok(Case {
+            index,
+            head,
+            file,
+            program,
+        })
+    }
+
+    // A build of every length.
+    fn compare(&mut self, group: &str, case: &Case) -> io::Result<()> {
+        let mut is_good = true;
+        for lent in case.lengths() {
+            self.tally.add(case.answer(lent));
+            if let Some(difference) = case.difference(lent) {
+                is_good = false;
+                self.tally.differs();
+                write!(self.out, "{difference}\n")?;
+            }
+        }
+        if !is_good {
+            let index = case.index;
+            write!(self.out, "{group} {index} differs\n")?;
+        }
+        Ok(())
+    }
+
+    // What cannot be read is a difference.
+    fn case(&mut self, group: &str, index: usize) -> io::Result<()> {
+        match self.next(index) {
+            Ok(case) => self.compare(group, &case),
+            Err(_) => {
+                self.tally.differs();
+                write!(self.out, "{group} {index}: the case cannot be read\n")
+            }
+        }
+    }
+
+    // An input that ends before a group has no cases of it.
+    fn group(&mut self, group: &str) -> io::Result<()> {
+        let mut count = [0u8; 2];
+        let _ = self.input.read_exact(&mut count);
+        let count = u16::from_be_bytes(count);
+        for index in 0..usize::from(count) {
+            self.case(group, index)?;
+        }
+        write!(self.out, "{group}: {count} files\n")
+    }
+
+    fn all(&mut self) -> io::Result<()> {
+        for group in GROUPS {
+            self.group(group)?;
+        }
+        let tally = self.tally;
+        write!(self.out, "{tally}")?;
+        self.out.flush()
+    }
 }
 
 fn main(rt: HostRuntime) -> io::Result<()> {
-    let mut input = BufReader::new(rt.alloc(), rt.reader())?;
-    let mut out = BufWriter::new(rt.alloc(), io::writer(&rt))?;
-    let mut tally = [0u64; 17];
-    replay_group(&mut input, &mut out, b"conditions", &mut tally)?;
-    replay_group(&mut input, &mut out, b"pairs", &mut tally)?;
-    replay_group(&mut input, &mut out, b"ports", &mut tally)?;
-    replay_group(&mut input, &mut out, b"random", &mut tally)?;
-    replay_group(&mut input, &mut out, b"far jumps", &mut tally)?;
-    replay_group(&mut input, &mut out, b"large", &mut tally)?;
-    replay_group(&mut input, &mut out, b"damaged", &mut tally)?;
-    text(&mut out, b"counts: ")?;
-    number(&mut out, tally[0])?;
-    text(&mut out, b"\n")?;
-    print_refusals(&mut out, &tally)?;
-    number(&mut out, sum(&tally))?;
-    text(&mut out, b" compared, ")?;
-    number(&mut out, tally[REFUSALS])?;
-    text(&mut out, b" differences\n")?;
-    out.flush()
+    let alloc = rt.alloc();
+    let mut replay = Replay {
+        alloc,
+        input: BufReader::new(alloc, rt.reader())?,
+        out: BufWriter::new(alloc, io::writer(&rt))?,
+        tally: Tally::default(),
+    };
+    replay.all()
 }

@@ -1,13 +1,20 @@
 // The program of bin/pft.
 #![tactic(auto)]
 
-use frames::{Output, Stream};
+use frames::{Ended, Session};
 
 fn main(rt: HostRuntime) {
-    let o = Output {
-        answers: Stream::Output(rt.stdout()),
-        messages: Stream::Error(rt.stderr()),
+    let session = Session {
+        rt: &rt,
+        answers: rt.stdout(),
+        messages: rt.stderr(),
     };
-    let ended = frames::answer(&rt, 1, frames::argument_count(&rt), o);
-    frames::tell(frames::STATUS_FILENO, ended);
+    let ended = match frames::arguments(&rt) {
+        Ok(arguments) => session.pft(arguments.get(1..).unwrap_or(&[])),
+        Err(error) => {
+            let _ = eprintln!(&rt; "arguments: cannot be read, {error}");
+            Ended::Failed
+        }
+    };
+    frames::tell(ended);
 }

@@ -1,4 +1,5 @@
 -- A capture that is read in windows of one buffer.
+use Rattle.std.specs.Prelude.{Ok, Err}
 use Prim.Native.Nat.{ℕ, ◌+◌, ◌-◌, ◌≤◌, ◌<◌}
 use mathlib.Core.Path.{◌≡◌, refl, sym, ap, ◌∙◌}
 use mathlib.Core.List.{List, [], ◌∷◌, ◌++◌}
@@ -10,7 +11,7 @@ use lib.ListN.{length, take, drop}
 use lib.Seq.{length-take-le, take-add, drop_at}
 use lib.Dec.{ltb}
 use Rattle.error.specs.declared.Refusal.{Refusal}
-use Rattle.error.specs.Answer.{Out, refused, done}
+use Rattle.error.specs.Answer.{Out}
 use Rattle.ast.specs.declared.LinkType.{LinkType}
 use Rattle.capture.specs.declared.Order.{Order}
 use Rattle.capture.specs.declared.Tally.{Tally}
@@ -44,8 +45,8 @@ module _ (P : List ℕ) (link : LinkType) where
   window_sound o w = tally_sound P o w 0 (omega arith)
 
   begin_sound : (w : List ℕ) (x : Out Order) → Sound (begin P w x).tally
-  begin_sound w (refused r) = none_sound
-  begin_sound w (done o) =
+  begin_sound w (Err r) = none_sound
+  begin_sound w (Ok o) =
       let f = window_sound o (drop 24 w) in
       record { kept = omega (arith, f.kept); given = omega (arith, f.given) }
 

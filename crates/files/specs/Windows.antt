@@ -1,5 +1,5 @@
 -- What `pft count` knows of a capture between two reads, and at its end.
-use Rattle.std.specs.Prelude.{ℕ, ◌+◌, ◌-◌, ◌≡◌, List, Bool, true, false, take, drop}
+use Rattle.std.specs.Prelude.{ℕ, ◌+◌, ◌-◌, ◌≡◌, List, Bool, true, false, take, drop, Result, IfOk}
 use Rattle.ast.specs.declared.LinkType.{LinkType}
 use Rattle.capture.specs.declared.Stage.{Stage}
 use Rattle.capture.specs.declared.Stage.TheVariants.{Header, Within, Turned}
@@ -7,8 +7,8 @@ use Rattle.capture.specs.Counting.{none, counted}
 use Rattle.capture.specs.Turns.{Reading, more}
 use Rattle.capture.specs.Promises.{Sound}
 use Rattle.files.specs.declared.windows.Progress.{Progress}
-use Rattle.files.specs.declared.windows.Counted.{Counted}
-use Rattle.files.specs.declared.windows.Counted.TheVariants.{Read, Failed}
+use Rattle.capture.specs.declared.Tally.{Tally}
+use Rattle.capture.specs.declared.Halt.{Halt}
 
 -- the most bytes that a file can have
 abbrev pub most : ℕ
@@ -39,6 +39,5 @@ pub record Used (P : List ℕ) (link : LinkType) (p : Progress) (n : ℕ) (b : L
   pub all : r.tally.stop + r.left ≡ p.tally.stop + n
 
 -- the answer of a file that was read is the count of one capture, whatever lengths its reads had
-abbrev pub Whole : List ℕ → LinkType → Counted → Type 0
-Whole P link (Read r) = (s : List ℕ) × (r ≡ counted P link s)
-Whole P link (Failed e) = Unit {0}
+abbrev pub Whole : {E : Type 0} → List ℕ → LinkType → Result (Result Tally Halt) E → Type 0
+Whole P link r = IfOk r (λ c. (s : List ℕ) × (c ≡ counted P link s))

@@ -1,4 +1,4 @@
-// Linux's numbers of the errors that are told apart.
+// Linux's numbers of the errors that are told apart. They stand here, since libc reaches past the handles.
 pub const ENOENT: i32 = 2;
 
 pub const EBADF: i32 = 9;

@@ -1,17 +1,16 @@
-// Files by name, read into lent buffers; captures in windows of one buffer.
+// Files by name; captures in windows of one lent buffer.
 #![tactic(auto)]
 
 pub mod errno;
 mod source;
 mod windows;
 
-ghost use Rattle.std.specs.Prelude.{◌+◌, ◌≤◌, ◌<◌, ◌≡◌, length, take, IfOk};
-ghost use Rattle.std.specs.Io.{ReadsAtMost};
+ghost use Rattle.std.specs.Prelude.{◌+◌, ◌≤◌, ◌<◌, ◌≡◌, length, take, vec_len, IfOk};
 
-pub use source::{Source, close, open};
+pub use source::{Source, open};
 use std::io::{Input, Read, Result};
 use std::rt::Files;
-pub use windows::{Counted, count};
+pub use windows::count;
 
 // Reads once into the bytes from a place on, of which there are some, and answers how many came: none are the file's end.
 pub fn read_from<R: Read>(reader: &mut R, buffer: &mut [u8], at: usize) -> Result<usize>
@@ -22,27 +21,26 @@ pub fn read_from<R: Read>(reader: &mut R, buffer: &mut [u8], at: usize) -> Resul
     reader.read(&mut buffer[at..])
 }
 
-// Reads until the buffer is full or the file ends.
-fn fill<R: Read>(reader: &mut R, buffer: &mut [u8]) -> Result<usize>
-    ensures { ReadsAtMost result buffer.new }
+// The file of a name, up to so many of its bytes.
+pub fn read(rt: &(impl Files + Input + AllocGlobal), name: &[u8], most: usize) -> Result<Vec<u8>>
+    ensures { IfOk result (λ bytes. vec_len bytes ≤ most) }
 {
-    let mut done = 0;
-    while done < buffer.len() {
-        let n = read_from(reader, buffer, done)?;
-        if n == 0 {
-            break;
-        }
-        done += n;
-    }
-    Ok(done)
+    let mut bytes = Vec::new(rt.alloc());
+    open(rt, name)?.take(most as u64).read_to_end(&mut bytes)?;
+    // No more came: `take` says that of each read, and this of all.
+    bytes.truncate(most);
+    Ok(bytes)
 }
 
-// The file of a name, as far as the buffer has room: how many bytes of it stand at the buffer's start.
-pub fn read(rt: &(impl Files + Input), name: &[u8], buffer: &mut [u8]) -> Result<usize>
-    ensures { ReadsAtMost result buffer.new }
-{
-    let mut source = open(rt, name)?;
-    let got = fill(&mut source, buffer);
-    close(source);
-    got
+#[cfg(test)]
+mod tests {
+    use super::*;
+    use std::test::Fail;
+
+    #[test]
+    fn read_takes_no_more(rt: HostRuntime) -> std::result::Result<(), Fail> {
+        let zeros = read(&rt, b"/dev/zero", 5)?;
+        assert_eq!(rt; zeros.as_slice(), [0; 5].as_slice());
+        Ok(())
+    }
 }

@@ -18,7 +18,7 @@ impl<F: Read, I: Read> Read for Source<F, I> {
     }
 }
 
-// A file by name, or standard input for `-`. The system's paths are text: another name is `InvalidFilename`.
+// A file by name, or standard input for `-`, which stays open. The system's paths are text: another name is `InvalidFilename`.
 pub fn open<R: Files + Input>(rt: &R, name: &[u8]) -> Result<Source<R::File, R::Reader>> {
     if name == b"-".as_slice() {
         return Ok(Source::Standard(rt.reader()));
@@ -27,9 +27,4 @@ pub fn open<R: Files + Input>(rt: &R, name: &[u8]) -> Result<Source<R::File, R::
         Ok(path) => Ok(Source::Named(File::open(rt, path)?)),
         Err(_) => Err(Error::from(ErrorKind::InvalidFilename)),
     }
-}
-
-// Standard input stays open.
-pub fn close<F: Drop, I: Drop>(source: Source<F, I>) {
-    drop(source);
 }

@@ -3,11 +3,11 @@ ghost use Rattle.std.specs.Prelude.{◌≡◌, ◌+◌, ◌-◌, ◌^◌, ◌≤
 ghost use Rattle.capture.specs.Turns.{sum as T·sum, finish as T·finish};
 ghost use Rattle.capture.specs.Promises.{Sound};
 ghost use Rattle.files.specs.Windows.{beginning, is_turned, Used, Whole};
-ghost use Rattle.files.specs.declared.windows.Counted.TheVariants.{Read};
 
 use crate::{errno, read_from};
 use ast::LinkType;
-use capture::{CountResult, Stage, Tally};
+use capture::{Halt, Stage, Tally};
+use std::io;
 use std::io::{Error, Read};
 
 // The most bytes that a file can have. Of a pipe that gives more nothing is counted.
@@ -21,27 +21,7 @@ struct Progress {
     left: usize,
 }
 
-// The frames of a capture; or why it cannot be read.
-#[derive(Drop)]
-pub enum Counted {
-    Read(CountResult),
-    Failed(Error),
-}
-
-fn unread() -> Progress
-    ensures { result ≡ beginning }
-{
-    Progress {
-        stage: Stage::Header,
-        tally: Tally {
-            kept: 0,
-            given: 0,
-            stop: 0,
-        },
-        left: 0,
-    }
-}
-
+// No `Add`: it asks that the sums fit.
 fn sum(a: Tally, b: Tally) -> Tally
     requires { (Sound a × Sound b) × (a.stop + b.stop < 2 ^ 64) }
     ensures { result ≡ T·sum a b }
@@ -53,7 +33,7 @@ fn sum(a: Tally, b: Tally) -> Tally
     }
 }
 
-// Moves the bytes from one place up to another to the start.
+// Moves the bytes from one place up to another to the start. Slices have no `copy_within`.
 fn move_front(buffer: &mut [u8], from: usize, to: usize)
     requires { (from ≤ to) × (to ≤ length buffer.old) }
     ensures { take (to - from) buffer.new ≡ take (to - from) (drop from buffer.old) }
@@ -61,72 +41,76 @@ fn move_front(buffer: &mut [u8], from: usize, to: usize)
     if from == 0 {
         return;
     }
-    let mut i = from;
-    while i < to {
+    for i in from..to {
         buffer[i - from] = buffer[i];
-        i += 1;
     }
 }
 
-// Uses the window of n bytes at the buffer's start, and moves what is left of it there.
-fn use_window(program: &[u8], link: LinkType, p: Progress, buffer: &mut [u8], n: usize) -> Progress
-    requires left_le_n { (p.left ≤ n) × (n ≤ length buffer.old) }
-    requires sound { Sound p.tally × (p.tally.stop + n < 2 ^ 64) }
-    ensures { Used program.now link p n buffer.old result buffer.new }
-{
-    let before = p.stage;
-    let so_far = p.tally;
-    let step = capture::take_window(program, link, before, &buffer[..n]);
-    let stage = step.stage;
-    let window = step.tally;
-    let stop = window.stop;
-    move_front(buffer, stop, n);
-    let tally = sum(so_far, window);
-    Progress {
-        stage,
-        tally,
-        left: n - stop,
+impl Progress {
+    fn beginning() -> Progress
+        ensures { result ≡ beginning }
+    {
+        Progress {
+            stage: Stage::Header,
+            tally: Tally {
+                kept: 0,
+                given: 0,
+                stop: 0,
+            },
+            left: 0,
+        }
+    }
+
+    // Uses the window of n bytes at the buffer's start, and moves what is left of it there.
+    #[tactic(auto, using(crate::proofs::Reading::window_within, crate::proofs::Reading::window_sound_here))]
+    fn use_window(&mut self, program: &[u8], link: LinkType, buffer: &mut [u8], n: usize)
+        requires left_le_n { (self.old.left ≤ n) × (n ≤ length buffer.old) }
+        requires sound { Sound self.old.tally × (self.old.tally.stop + n < 2 ^ 64) }
+        ensures { Used program.now link self.old n buffer.old self.new buffer.new }
+    {
+        let step = capture::take_window(program, link, self.stage, &buffer[..n]);
+        let window = step.tally;
+        move_front(buffer, window.stop, n);
+        self.stage = step.stage;
+        self.tally = sum(self.tally, window);
+        self.left = n - window.stop;
+    }
+
+    fn is_turned(&self) -> bool
+        ensures { result ≡ is_turned self.now.stage }
+    {
+        matches!(self.stage, Stage::Turned(_))
+    }
+
+    fn finish(&self) -> Result<Tally, Halt>
+        ensures { result ≡ T·finish self.now.stage self.now.tally self.now.left }
+    {
+        capture::finish(self.stage, self.tally, self.left)
     }
 }
 
-fn is_turned(stage: Stage) -> bool
-    ensures { result ≡ is_turned stage }
-{
-    match stage {
-        Stage::Header => false,
-        Stage::Within(_) => false,
-        Stage::Turned(_) => true,
-    }
-}
-
-fn finished(p: Progress) -> Counted
-    ensures { result ≡ Read (T·finish p.stage p.tally p.left) }
-{
-    let stage = p.stage;
-    let tally = p.tally;
-    Counted::Read(capture::finish(stage, tally, p.left))
-}
-
-// Reads a capture to its end or to a refusal.
-pub fn count<R: Read>(reader: &mut R, program: &[u8], link: LinkType, buffer: &mut [u8]) -> Counted
+// The frames of a capture, read to its end or to a refusal; or why it cannot be read.
+pub fn count<R: Read>(
+    reader: &mut R,
+    program: &[u8],
+    link: LinkType,
+    buffer: &mut [u8],
+) -> io::Result<Result<Tally, Halt>>
     requires { (65551 ≤ length buffer.old) × (length buffer.old ≤ 2 ^ 62) }
     ensures { Whole program.now link result }
 {
-    let mut p = unread();
-    loop {
-        let stage = p.stage;
-        if is_turned(stage) {
-            return finished(p);
+    let mut p = Progress::beginning();
+    // What comes is the reader's to say, so no iterator knows the end.
+    while !p.is_turned() {
+        if MOST < p.tally.stop {
+            return Err(Error::from_raw_os_error(errno::EFBIG));
         }
-        let tally = p.tally;
-        if MOST < tally.stop {
-            return Counted::Failed(Error::from_raw_os_error(errno::EFBIG));
+        let n = read_from(reader, buffer, p.left)?;
+        if n == 0 {
+            break;
         }
-        let left = p.left;
-        match read_from(reader, buffer, left) {
-            Ok(0) => return finished(p),
-            Ok(n) => p = use_window(program, link, p, buffer, left + n),
-            Err(error) => return Counted::Failed(error),
-        }
+        let window = p.left + n;
+        p.use_window(program, link, buffer, window);
     }
+    Ok(p.finish())
 }

@@ -1,40 +1,86 @@
-// The program's arguments, by number. Argument 0 is the program's name.
-ghost use Rattle.io.specs.Counts.{IsPrefixLen};
-ghost use Rattle.std.specs.Io.{ReadsAtMost};
+// The program's arguments. Argument 0 is the program's name.
+ghost use Rattle.std.specs.Prelude.{◌≡◌, ◌≤◌, ◌<◌, ℕ, length, slice_index_or, IfOk};
+ghost use Rattle.frames.specs.declared.argument.Argument.{Argument};
 
 use files::errno;
 use std::env::FillError;
-use std::io::{Error, ErrorKind, Result};
+use std::io::{Error, Result};
 use std::rt::Env;
 
-// How many there are.
-pub fn argument_count(env: &impl Env) -> usize {
-    for i in 0..usize::MAX {
-        match env.arg(i, &mut []) {
-            Err(FillError::NotPresent) => return i,
-            _ => {}
+// The most bytes of a file's name.
+const PATH: usize = 4096;
+
+// Room for the longest argument that Linux passes, 131,071 bytes.
+const ROOM: usize = 131072;
+
+// An argument, by its number. Its bytes need not be text; a longer one than there is room for has none.
+#[derive(Drop)]
+pub struct Argument {
+    pub number: usize,
+    bytes: Option<Vec<u8>>,
+}
+
+impl Argument {
+    fn up_to(&self, most: usize) -> Result<&[u8]>
+        ensures { IfOk result (λ bytes. length bytes.now ≤ most) }
+    {
+        match &self.bytes {
+            Some(bytes) if bytes.len() <= most => Ok(bytes.as_slice()),
+            _ => Err(Error::from_raw_os_error(errno::ENAMETOOLONG)),
         }
     }
-    usize::MAX
-}
 
-// Puts an argument at the start of a buffer, which may have too little room, and answers its length.
-pub fn argument(env: &impl Env, i: usize, buffer: &mut [u8]) -> Result<usize>
-    ensures { ReadsAtMost result buffer.new }
-{
-    match env.arg(i, buffer) {
-        Ok(n) => Ok(n),
-        Err(FillError::TooLong) => Err(Error::from_raw_os_error(errno::ENAMETOOLONG)),
-        Err(FillError::NotPresent) => Err(Error::from(ErrorKind::InvalidInput)),
+    // As a file's name.
+    pub(crate) fn path(&self) -> Result<&[u8]>
+        ensures { IfOk result (λ bytes. length bytes.now ≤ 4096) }
+    {
+        self.up_to(PATH)
+    }
+
+    // As a typed line.
+    pub(crate) fn line(&self) -> Result<&[u8]> {
+        self.up_to(ROOM)
+    }
+
+    // As a word of the command. One that is longer than a path counts as an empty one.
+    pub fn word(&self) -> &[u8]
+        ensures { length result.now ≤ 4096 }
+    {
+        self.path().unwrap_or(b"")
+    }
+
+    // Whether it is an option: `-` alone is none.
+    pub(crate) fn is_option(&self) -> bool {
+        let word = self.word();
+        word.len() > 1 && word.starts_with(b"-")
     }
 }
 
-// The same, where an argument that is too long counts as an empty one.
-pub fn word(env: &impl Env, i: usize, buffer: &mut [u8]) -> usize
-    ensures { IsPrefixLen result buffer.new }
+pub fn arguments(rt: &(impl Env + AllocGlobal)) -> Result<Vec<Argument>>
+    ensures { IfOk result (λ all. (k : ℕ) (d : Argument) → k < length all.items → (slice_index_or all.items k d).number ≡ k) }
 {
-    match argument(env, i, buffer) {
-        Ok(n) => n,
-        Err(_) => 0,
+    let mut all = Vec::new(rt.alloc());
+    let mut room = vec![in rt.alloc(); 0; ROOM]?;
+    for number in 0..usize::MAX {
+        let bytes = match rt.arg(number, &mut room) {
+            Ok(n) => Some(Vec::from_slice(rt.alloc(), &room[..n])?),
+            Err(FillError::TooLong) => None,
+            Err(FillError::NotPresent) => break,
+        };
+        all.push(Argument { number, bytes })?;
+    }
+    Ok(all)
+}
+
+#[cfg(test)]
+mod tests {
+    use super::*;
+    use std::test::Fail;
+
+    #[test]
+    fn the_name_is_an_argument(rt: HostRuntime) -> std::result::Result<(), Fail> {
+        let all = arguments(&rt)?;
+        assert!(rt; !all.is_empty());
+        Ok(())
     }
 }

@@ -1,171 +1,110 @@
 // `pft count`: what is answered of a capture, how many of its frames a program keeps.
-ghost use Rattle.std.specs.Prelude.{◌≡◌, length};
-
-use crate::{
-    Output, REFUSED, Stream, answered, put_name, put_refused, refused, text, unread, worse,
-};
+use crate::argument::Argument;
+use crate::said::{LinkName, Name, Refused};
+use crate::tree::Behind;
+use crate::{Ended, Session, Work, program_of};
 use ast::LinkType;
-use capture::{CountResult, Tally};
+use capture::{Halt, Tally};
 use error::Refusal;
-use files::Counted;
-use reader::Checked;
-use std::io::{Input, Print, Result};
+use std::fmt::{Display, Formatter, Write};
+use std::io::{Input, Print};
 use std::rt::Files;
+use std::{fmt, io};
 
 // Room for the longest frame with its header, 65,551 bytes, and for many others in one read.
 const ROOM: usize = 262144;
 
-fn room() -> [u8; ROOM]
-    ensures { 262144 ≡ length result }
-{
-    [0; ROOM]
-}
+// How files of Wireshark's own kind start.
+const PCAPNG: [u8; 4] = *b"\n\r\r\n";
 
-// ---- answers
-
-fn put_counts(to: Stream, name: &[u8], tally: Tally, of: &str) -> Result<()> {
-    put_name(to, name)?;
-    print!(to; ": kept {}{of}{} frames\n", tally.kept, tally.given)
-}
-
-fn put_all(to: Stream, name: &[u8], tally: Tally) -> Result<()> {
-    put_counts(to, name, tally, " of ")
-}
-
-// The frames before a bad one.
-fn put_first(to: Stream, name: &[u8], tally: Tally) -> Result<()> {
-    put_counts(to, name, tally, " of the first ")
-}
-
-// ---- what follows a refusal's word
-
-// The number after another. No file has so many frames that there is none.
-fn next(n: u64) -> u64 {
-    if n < u64::MAX { n + 1 } else { n }
-}
-
-// The bad frame's number, from 1 on, and the place of its header in the file.
-fn put_place(to: Stream, tally: Tally) -> Result<()> {
-    print!(to; ", at frame {}, byte {}", next(tally.given), tally.stop)
-}
-
-// The link that a capture has to have for a tree.
-fn put_link(to: Stream, link: LinkType) -> Result<()> {
-    match link {
-        LinkType::Ethernet => text(to, b", the tree is for Ethernet (1)"),
-        LinkType::RawIp => text(to, b", the tree is for RawIp (101)"),
-        LinkType::LinuxSll => text(to, b", the tree is for LinuxSll (113)"),
-    }
-}
-
-// Whether a file starts as those do that Wireshark writes.
-fn is_pcapng(start: &[u8]) -> bool {
-    if start.len() < 4 {
-        return false;
-    }
-    &start[0..4] == b"\n\r\r\n".as_slice()
-}
-
-fn put_kind(to: Stream, start: &[u8]) -> Result<()> {
-    if is_pcapng(start) {
-        return text(to, b", it is pcapng");
-    }
-    Ok(())
-}
-
-fn put_detail(to: Stream, r: Refusal, tally: Tally, link: LinkType, start: &[u8]) -> Result<()> {
-    match r {
-        Refusal::NoCapture => put_kind(to, start),
-        Refusal::OtherLink => put_link(to, link),
-        Refusal::CutFrame => put_place(to, tally),
-        _ => Ok(()),
-    }
-}
-
-fn put_line(
-    to: Stream,
-    name: &[u8],
-    r: Refusal,
+// A capture that is refused: the frames before that, the tree's link, and the capture's start.
+#[derive(Clone, Copy)]
+struct Stopped<'a> {
+    refusal: Refusal,
     tally: Tally,
     link: LinkType,
-    start: &[u8],
-) -> Result<()> {
-    put_refused(to, name, r)?;
-    put_detail(to, r, tally, link, start)?;
-    text(to, b"\n")
+    start: &'a [u8],
 }
 
-// ---- refusals
-
-fn turned_down(
-    name: &[u8],
-    r: Refusal,
-    tally: Tally,
-    link: LinkType,
-    start: &[u8],
-    o: Output,
-) -> u8 {
-    let _ = put_line(o.messages, name, r, tally, link, start);
-    REFUSED
-}
-
-fn is_cut(r: Refusal) -> bool {
-    match r {
-        Refusal::CutFrame => true,
-        _ => false,
-    }
-}
-
-// Before a bad frame some are counted.
-fn stopped(name: &[u8], r: Refusal, tally: Tally, link: LinkType, start: &[u8], o: Output) -> u8 {
-    if is_cut(r) {
-        let counted = answered(o, put_first(o.answers, name, tally));
-        return worse(counted, turned_down(name, r, tally, link, start, o));
-    }
-    turned_down(name, r, tally, link, start, o)
-}
-
-// ---- a capture
-
-// A file that is refused with 12 or 13 starts where the buffer does.
-fn tell(name: &[u8], counted: Counted, link: LinkType, start: &[u8], o: Output) -> u8 {
-    match counted {
-        Counted::Failed(error) => unread(o, name, error),
-        Counted::Read(result) => match result {
-            CountResult::Count(tally) => answered(o, put_all(o.answers, name, tally)),
-            CountResult::Refused(r, tally) => stopped(name, r, tally, link, start, o),
-        },
-    }
-}
-
-fn count_file(
-    rt: &(impl Files + Input),
-    name: &[u8],
-    program: &[u8],
-    link: LinkType,
-    o: Output,
-) -> u8 {
-    match files::open(rt, name) {
-        Ok(mut source) => {
-            let mut buffer = room();
-            let counted = files::count(&mut source, program, link, &mut buffer);
-            files::close(source);
-            tell(name, counted, link, &buffer, o)
+// The bad frame's number is from 1 on, and its place that of its header in the file.
+impl Display for Stopped<'_> {
+    fn fmt<W: Write>(&self, f: &mut Formatter<W>) -> fmt::Result {
+        write!(f, "{}", Refused(self.refusal))?;
+        match self.refusal {
+            Refusal::NoCapture if self.start.starts_with(&PCAPNG) => write!(f, ", it is pcapng"),
+            Refusal::OtherLink => write!(f, ", the tree is for {}", LinkName(self.link)),
+            Refusal::CutFrame => {
+                let frame = self.tally.given.saturating_add(1);
+                let byte = self.tally.stop;
+                write!(f, ", at frame {frame}, byte {byte}")
+            }
+            _ => Ok(()),
         }
-        Err(error) => unread(o, name, error),
     }
 }
 
-// The tree is one that was built.
-pub fn try_file(
-    rt: &(impl Files + Input),
-    name: &[u8],
-    tree: &[u8],
-    program: &[u8],
-    o: Output,
-) -> u8 {
-    match reader::header(tree) {
-        Checked::Link(link) => count_file(rt, name, program, link, o),
-        Checked::Refused(r) => refused(o, name, r),
+impl<R: Files + Input + AllocGlobal, A: Print, M: Print> Session<'_, R, A, M> {
+    fn kept(&self, name: Name, tally: Tally, of: &str) -> Work<Ended> {
+        let Tally { kept, given, .. } = tally;
+        self.answer(name, format_args!("kept {kept} {of} {given} frames"))
+    }
+
+    // Before a bad frame some are counted.
+    fn stopped(&self, name: Name, stopped: Stopped) -> Work<Ended> {
+        let counted = match stopped.refusal {
+            Refusal::CutFrame => self.kept(name, stopped.tally, "of the first"),
+            _ => Ok(Ended::Done),
+        };
+        self.say(name, stopped);
+        counted?;
+        Ok(Ended::Refused)
+    }
+
+    // The count of a capture, and its start, where one that is refused with 12 or 13 ends.
+    fn count_of(
+        &self,
+        path: &[u8],
+        program: &[u8],
+        link: LinkType,
+        buffer: &mut [u8; ROOM],
+    ) -> io::Result<Result<Tally, Halt>> {
+        let mut source = files::open(self.rt, path)?;
+        files::count(&mut source, program, link, buffer)
+    }
+
+    fn count_file(&self, path: &[u8], program: &[u8], link: LinkType) -> Work<Ended> {
+        let name = Name::File(path);
+        // Lent bytes: a capture is read in windows of them.
+        let mut buffer = [0u8; ROOM];
+        match self.count_of(path, program, link, &mut buffer) {
+            Ok(Ok(tally)) => self.kept(name, tally, "of"),
+            Ok(Err(Halt { refusal, tally })) => {
+                let start = buffer.as_slice();
+                self.stopped(
+                    name,
+                    Stopped {
+                        refusal,
+                        tally,
+                        link,
+                        start,
+                    },
+                )
+            }
+            Err(error) => Ok(self.unread(name, error)),
+        }
+    }
+
+    // A tree, and the captures whose frames its program counts.
+    pub fn count(&self, arguments: &[Argument]) -> Work<Ended> {
+        let given = self.tree(arguments, Behind::Files)?;
+        let mut buffer = [0u8; 32768];
+        let program = match program_of(&given.tree, &mut buffer) {
+            Ok(program) => program,
+            Err(r) => return Ok(self.refused(given.name, r)),
+        };
+        match reader::header(&given.tree) {
+            Ok(link) => self.over(given.files, |path| self.count_file(path, program, link)),
+            Err(r) => Ok(self.refused(given.name, r)),
+        }
     }
 }

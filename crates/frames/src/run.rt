@@ -1,70 +1,81 @@
 // `pft run`: what is answered of a frame file, its verdict and its direct reading.
-use crate::{Output, Stream, answered, put_name, refused, text, unread};
-use direct::DirectResult;
-use std::io::{Input, Print, Result};
+use crate::argument::Argument;
+use crate::said::{Name, VerdictWord};
+use crate::tree::Behind;
+use crate::{Ended, Session, Work, program_of};
+use error::Refusal;
+use std::io::{Input, Print};
 use std::rt::Files;
-use vm::{Outcome, RunResult, Verdict};
 
-// ---- answers
+// A frame has at most 65,535 bytes, so of a longer file so many tell that.
+const FRAME_BYTES: usize = 65536;
 
-fn put_verdict(to: Stream, v: Verdict) -> Result<()> {
-    match v {
-        Verdict::Accepted => text(to, b"accepted"),
-        Verdict::Dropped => text(to, b"dropped"),
-        Verdict::Short => text(to, b"short"),
-        Verdict::Broken => text(to, b"broken"),
+// A tree that passes checks 1 to 4 has a direct reading.
+fn is_tree(r: Refusal) -> bool {
+    matches!(
+        r,
+        Refusal::KindOnRaw
+            | Refusal::PortProtocol
+            | Refusal::EtherOnRaw
+            | Refusal::FarJump
+            | Refusal::CookedAddress
+    )
+}
+
+impl<R: Files + Input + AllocGlobal, A: Print, M: Print> Session<'_, R, A, M> {
+    // Where there is no program the tree is read directly alone.
+    fn run_program(
+        &self,
+        name: Name,
+        program: Option<&[u8]>,
+        frame: &[u8],
+        truth: bool,
+    ) -> Work<Ended> {
+        let Some(program) = program else {
+            return self.answer(name, format_args!("not run, direct reading {truth}"));
+        };
+        match machine::run(program, frame) {
+            Ok(outcome) => {
+                let verdict = VerdictWord(outcome.verdict);
+                let steps = outcome.steps;
+                self.answer(
+                    name,
+                    format_args!("{verdict}, steps {steps}, direct reading {truth}"),
+                )
+            }
+            Err(r) => Ok(self.refused(name, r)),
+        }
     }
-}
 
-fn put_truth(to: Stream, truth: bool) -> Result<()> {
-    print!(to; ", direct reading {truth}\n")
-}
-
-fn put_ran(to: Stream, name: &[u8], outcome: Outcome, truth: bool) -> Result<()> {
-    put_name(to, name)?;
-    text(to, b": ")?;
-    put_verdict(to, outcome.verdict)?;
-    print!(to; ", steps {}", outcome.steps)?;
-    put_truth(to, truth)
-}
-
-fn put_not_run(to: Stream, name: &[u8], truth: bool) -> Result<()> {
-    put_name(to, name)?;
-    text(to, b": not run")?;
-    put_truth(to, truth)
-}
-
-// ---- a frame
-
-// Where there is no program the tree is read directly alone.
-fn try_program(name: &[u8], program: &[u8], frame: &[u8], truth: bool, o: Output) -> u8 {
-    if program.len() == 0 {
-        return answered(o, put_not_run(o.answers, name, truth));
+    fn run_frame(&self, path: &[u8], tree: &[u8], program: Option<&[u8]>) -> Work<Ended> {
+        let name = Name::File(path);
+        let frame = match files::read(self.rt, path, FRAME_BYTES) {
+            Ok(frame) => frame,
+            Err(error) => return Ok(self.unread(name, error)),
+        };
+        match evaluate::direct_reading(tree, &frame) {
+            Ok(truth) => self.run_program(name, program, &frame, truth),
+            Err(r) => Ok(self.refused(name, r)),
+        }
     }
-    match machine::run(program, frame) {
-        RunResult::Ran(outcome) => answered(o, put_ran(o.answers, name, outcome, truth)),
-        RunResult::Refused(r) => refused(o, name, r),
-    }
-}
 
-fn try_frame(name: &[u8], tree: &[u8], program: &[u8], frame: &[u8], o: Output) -> u8 {
-    match evaluate::direct_reading(tree, frame) {
-        DirectResult::Is(truth) => try_program(name, program, frame, truth, o),
-        DirectResult::Refused(r) => refused(o, name, r),
-    }
-}
-
-// A frame has at most 65,535 bytes, so of a longer file 65,536 bytes tell that.
-pub fn try_file(
-    rt: &(impl Files + Input),
-    name: &[u8],
-    tree: &[u8],
-    program: &[u8],
-    o: Output,
-) -> u8 {
-    let mut frame = io::large_buffer();
-    match files::read(rt, name, &mut frame) {
-        Ok(n) => try_frame(name, tree, program, &frame[..n], o),
-        Err(error) => unread(o, name, error),
+    // A tree, and the frames that its program runs over. Without a program a frame may still be read directly.
+    pub fn run(&self, arguments: &[Argument]) -> Work<Ended> {
+        let given = self.tree(arguments, Behind::Files)?;
+        let tree = given.tree.as_slice();
+        let mut buffer = [0u8; 32768];
+        match program_of(tree, &mut buffer) {
+            Ok(program) => self.over(
+                given.files,
+                |path| self.run_frame(path, tree, Some(program)),
+            ),
+            Err(r) => {
+                let ended = self.refused(given.name, r);
+                if !is_tree(r) {
+                    return Ok(ended);
+                }
+                Ok(ended.max(self.over(given.files, |path| self.run_frame(path, tree, None))?))
+            }
+        }
     }
 }

@@ -1,190 +1,133 @@
 // A line that is typed, in two arguments, its link and its text: its tree, or why it has none.
-ghost use Rattle.std.specs.Prelude.{◌≡◌, length};
-
-use crate::argument::argument;
-use crate::tree::Job;
-use crate::{
-    Output, REFUSED, Stream, USAGE, first, over, put_numbered, text, tree, unread_argument, word,
-};
+use crate::argument::Argument;
+use crate::over::names_input_twice;
+use crate::said::{Name, Refused};
+use crate::tree::{Behind, Given};
+use crate::{Ended, Session, Work};
 use error::Refusal;
-use std::io::{Input, Print, Result};
-use std::rt::{Env, Files};
-use typing::TypeResult;
+use std::io;
+use std::io::{Error, Input, Print};
+use std::rt::Files;
 
-// Room for the longest argument that Linux passes, 131,071 bytes.
-const ROOM: usize = 131072;
-
-fn room() -> [u8; ROOM]
-    ensures { 131072 ≡ length result }
-{
-    [0; ROOM]
-}
-
-// ---- the link
-
-fn is_either(word: &[u8], number: &[u8], name: &[u8]) -> bool {
-    word == number || word == name
-}
-
-// A link's byte in a tree file, by number or name; 0 for another word.
-fn link_of(word: &[u8]) -> u8 {
-    if is_either(word, b"1", b"ethernet") {
-        return 1;
-    }
-    if is_either(word, b"2", b"raw") {
-        return 2;
-    }
-    if is_either(word, b"3", b"cooked") {
-        return 3;
-    }
-    0
-}
-
-fn put_no_link(to: Stream, word: &[u8]) -> Result<()> {
-    text(to, word)?;
-    text(
-        to,
-        b": no link; the links are ethernet (1), raw (2) and cooked (3)\n",
-    )
-}
-
-fn no_link(o: Output, word: &[u8]) -> u8 {
-    let _ = put_no_link(o.messages, word);
-    USAGE
-}
-
-// ---- a line that is refused
-
-fn put_line(to: Stream, line: &[u8]) -> Result<()> {
-    text(to, line)?;
-    text(to, b"\n")
-}
-
-// Under the line a mark, behind so many characters.
-fn put_mark(to: Stream, before: usize) -> Result<()> {
-    let spaces = [b' '; 128];
-    text(to, first(&spaces, before))?;
-    put_line(to, b"^")
-}
-
-// What is said below the line, of a place in it.
-fn put_fault(to: Stream, link: u8, line: &[u8], r: Refusal, place: usize) -> Result<()> {
-    put_numbered(to, r)?;
-    print!(to; ", at byte {place}; here could follow: ")?;
-    hints::put_followers(&to, link, first(line, place))?;
-    text(to, b"\n")
-}
-
-fn put_too_large(to: Stream) -> Result<()> {
-    put_numbered(to, Refusal::TooLarge)?;
-    put_line(to, b": over 128 records or over 128 brackets open at once")
-}
-
-fn is_too_large(r: Refusal) -> bool {
-    match r {
-        Refusal::TooLarge => true,
-        _ => false,
+// A link's byte in a tree file, by number or name.
+fn link_of(word: &[u8]) -> Option<u8> {
+    match word {
+        b"1" | b"ethernet" => Some(1),
+        b"2" | b"raw" => Some(2),
+        b"3" | b"cooked" => Some(3),
+        _ => None,
     }
 }
 
-fn put_turned_down(to: Stream, link: u8, line: &[u8], r: Refusal, place: usize) -> Result<()> {
-    let mut buffer = io::buffer();
-    let shown = hints::show(line, place, &mut buffer);
-    put_line(to, first(&buffer, shown.length))?;
-    if is_too_large(r) {
-        return put_too_large(to);
-    }
-    put_mark(to, shown.mark)?;
-    put_fault(to, link, line, r, place)
-}
-
-fn turned_down(link: u8, line: &[u8], r: Refusal, place: usize, o: Output) -> u8 {
-    let _ = put_turned_down(o.messages, link, line, r, place);
-    REFUSED
-}
-
-// ---- a line
-
-// A tree of a line goes by what is shown of the line.
-fn with_tree(
-    rt: &(impl Env + Files + Input),
-    job: Job,
-    line: &[u8],
-    tree: &[u8],
-    from: usize,
-    to: usize,
-    o: Output,
-) -> u8 {
-    let mut buffer = io::buffer();
-    let shown = hints::show(line, 0, &mut buffer);
-    let name = first(&buffer, shown.length);
-    tree::with_tree(rt, job, name, tree, from, to, o)
-}
-
-fn with_line(
-    rt: &(impl Env + Files + Input),
-    job: Job,
+// A line that is refused, at a place.
+#[derive(Clone, Copy)]
+struct Fault<'a> {
     link: u8,
-    line: &[u8],
-    from: usize,
-    to: usize,
-    o: Output,
-) -> u8 {
-    let mut tree = [0u8; 3080];
-    match type_line::type_line(link, line, &mut tree) {
-        TypeResult::Length(n) => with_tree(rt, job, line, first(&tree, n), from, to, o),
-        TypeResult::Refused(r, place) => turned_down(link, line, r, place, o),
-    }
+    line: &'a [u8],
+    refusal: Refusal,
+    place: usize,
 }
 
-// The line that an argument is.
-fn with_argument(
-    rt: &(impl Env + Files + Input),
-    job: Job,
-    link: u8,
-    i: usize,
-    from: usize,
-    to: usize,
-    o: Output,
-) -> u8 {
-    let mut line = room();
-    match argument(rt, i, &mut line) {
-        Ok(n) => with_line(rt, job, link, &line[..n], from, to, o),
-        Err(error) => unread_argument(o, i, error),
-    }
-}
+impl<R: Files + Input + AllocGlobal, A: Print, M: Print> Session<'_, R, A, M> {
+    // ---- a line that is refused
 
-// ---- the arguments
+    // Below the line a mark under the place, the refusal, and what could stand there.
+    fn put_fault(&self, fault: Fault) -> io::Result<()> {
+        let to = &self.messages;
+        let Fault {
+            link,
+            line,
+            refusal,
+            place,
+        } = fault;
+        let shown = hints::show(line, place);
+        let refused = Refused(refusal);
+        if refusal == Refusal::TooLarge {
+            return print!(to;
+                "{shown}\n{refused}: over 128 records or over 128 brackets open at once\n"
+            );
+        }
+        let mark = shown.mark + 1;
+        print!(to;
+            "{shown}\n{:>mark$}\n{refused}, at byte {place}; here could follow: ",
+            "^"
+        )?;
+        let start = line.get(..place).unwrap_or(line);
+        hints::put_followers(to, self.rt.alloc(), link, start)?;
+        print!(to; "\n")
+    }
 
-// Words behind the line may be its own.
-fn misfit(files: usize, to: usize, o: Output) -> u8 {
-    if files < to {
-        let _ = put_line(o.messages, b"the line is one argument: put it in quotes");
+    fn turned_down(&self, fault: Fault) -> Ended {
+        let _ = self.put_fault(fault);
+        Ended::Refused
     }
-    USAGE
-}
 
-// A link, a line, and the job's files.
-pub fn answer(rt: &(impl Env + Files + Input), job: Job, from: usize, to: usize, o: Output) -> u8 {
-    if to <= from {
-        return USAGE;
+    // ---- a line
+
+    // A tree of a line goes by what is shown of the line.
+    fn typed_line<'a>(&self, link: u8, line: &'a [u8], files: &'a [Argument]) -> Work<Given<'a>> {
+        // Lent bytes, as the typing takes them.
+        let name = Name::Line(hints::show(line, 0));
+        let mut room = [0u8; 3080];
+        let length = match type_line::type_line(link, line, &mut room) {
+            Ok(n) => n,
+            Err(typing::Fault { refusal, place }) => {
+                return Err(self.turned_down(Fault {
+                    link,
+                    line,
+                    refusal,
+                    place,
+                }));
+            }
+        };
+        match Vec::from_slice(self.rt.alloc(), &room) {
+            Ok(mut tree) => {
+                tree.truncate(length);
+                Ok(Given { name, tree, files })
+            }
+            Err(error) => Err(self.unread(name, Error::from(error))),
+        }
     }
-    if to - from < 2 {
-        return USAGE;
+
+    // ---- the arguments
+
+    fn put_no_link(&self, word: &[u8]) -> io::Result<()> {
+        let to = &self.messages;
+        to.write_all(word)?;
+        print!(to; ": no link; the links are ethernet (1), raw (2) and cooked (3)\n")
     }
-    let files = from + 2;
-    if !tree::takes_files(job, files, to) {
-        return misfit(files, to, o);
+
+    fn no_link(&self, word: &[u8]) -> Ended {
+        let _ = self.put_no_link(word);
+        Ended::Usage
     }
-    let mut buffer = io::buffer();
-    let n = word(rt, from, &mut buffer);
-    let name = &buffer[..n];
-    let link = link_of(name);
-    if link == 0 {
-        return no_link(o, name);
+
+    // Words behind the line may be its own.
+    fn misfit(&self, files: &[Argument]) -> Ended {
+        if !files.is_empty() {
+            let to = &self.messages;
+            let _ = print!(to; "the line is one argument: put it in quotes\n");
+        }
+        Ended::Usage
     }
-    if over::names_input_twice(rt, files, to) {
-        return over::named_twice(o);
+
+    // A link, a line, and the files behind them.
+    pub fn typed<'a>(&self, arguments: &'a [Argument], behind: Behind) -> Work<Given<'a>> {
+        let [first, line, files @ ..] = arguments else {
+            return Err(Ended::Usage);
+        };
+        if !behind.fits(files) {
+            return Err(self.misfit(files));
+        }
+        let Some(link) = link_of(first.word()) else {
+            return Err(self.no_link(first.word()));
+        };
+        if names_input_twice(files) {
+            return Err(self.named_twice());
+        }
+        match line.line() {
+            Ok(text) => self.typed_line(link, text, files),
+            Err(error) => Err(self.unread(Name::Argument(line.number), error)),
+        }
     }
-    with_argument(rt, job, link, from + 1, files, to, o)
 }

@@ -1,63 +1,48 @@
-// The characters of a text: those of UTF-8, and each byte that is part of none.
-ghost use Rattle.std.specs.Prelude.{◌≤◌, ◌<◌, length};
+// The characters of a text as they are shown: those of UTF-8, and `?` for a control character and for each byte that is part of none.
+ghost use Rattle.std.specs.Prelude.{◌-◌, ◌≤◌, ◌<◌, length};
+ghost use Rattle.std.specs.Iterator.{at_most};
 
-// How many bytes a character has by its first; 1 also for a byte that starts none.
-fn size(first: u8) -> usize
-    ensures { 1 ≤ result }
+// The most bytes that a character has.
+const LONGEST: usize = 4;
+
+// The characters from a place on, each with its own place.
+#[derive(Drop)]
+pub struct Characters<'a> {
+    text: &'a [u8],
+    at: usize,
+}
+
+// The first character, and how many bytes it has.
+fn first(text: &[u8]) -> (char, usize)
+    requires { 0 < length text.now }
+    ensures { (0 < result.1) × (result.1 ≤ length text.now) }
 {
-    match first {
-        0xc2..=0xdf => 2,
-        0xe0..=0xef => 3,
-        0xf0..=0xf4 => 4,
-        _ => 1,
+    let start = &text[..text.len().min(LONGEST)];
+    let chunk = start.utf8_chunks().next();
+    match chunk.and_then(|chunk| chunk.valid().chars().next()) {
+        Some(c) => (if c.is_control() { '?' } else { c }, c.len_utf8()),
+        None => ('?', 1),
     }
 }
 
-fn is_later(b: u8) -> bool {
-    b >= 0x80 && b <= 0xbf
-}
-
-// Whether a byte may stand behind the first. What others would spell is too small for so many bytes, or no character.
-fn is_second(first: u8, b: u8) -> bool {
-    match first {
-        0xe0 => b >= 0xa0 && b <= 0xbf,
-        0xed => b >= 0x80 && b <= 0x9f,
-        0xf0 => b >= 0x90 && b <= 0xbf,
-        0xf4 => b >= 0x80 && b <= 0x8f,
-        _ => is_later(b),
+impl<'a> Characters<'a> {
+    pub fn new(text: &'a [u8]) -> Characters<'a> {
+        Characters { text, at: 0 }
     }
 }
 
-// Whether bytes, as many as their first asks for, are one character of several.
-fn is_whole(bytes: &[u8]) -> bool {
-    match bytes.len() {
-        2 => is_second(bytes[0], bytes[1]),
-        3 => is_second(bytes[0], bytes[1]) && is_later(bytes[2]),
-        4 => is_second(bytes[0], bytes[1]) && is_later(bytes[2]) && is_later(bytes[3]),
-        _ => false,
-    }
-}
+impl Iterator for Characters<'_> {
+    type Item = (usize, char);
 
-// Where the character at a place ends.
-pub fn end(text: &[u8], at: usize) -> usize
-    requires { at < length text.now }
-    ensures { (at < result) × (result ≤ length text.now) }
-{
-    let n = size(text[at]);
-    if n <= text.len() - at {
-        let to = at + n;
-        if is_whole(&text[at..to]) {
-            return to;
+    ghost remaining = { λ s. at_most (length s.text.now - s.at) };
+
+    fn next(&mut self) -> Option<(usize, char)> {
+        let at = self.at;
+        if at >= self.text.len() {
+            return None;
         }
-    }
-    at + 1
-}
-
-// Whether a character can be shown: it is no control character, and no byte alone that is none.
-pub fn is_plain(character: &[u8]) -> bool {
-    match character.len() {
-        1 => character[0] >= 0x20 && character[0] <= 0x7e,
-        2 => character[0] > 0xc2 || character[1] >= 0xa0,
-        _ => true,
+        let (c, size) = first(&self.text[at..]);
+        self.at = at + size;
+        Some((at, c))
     }
 }

@@ -1,4 +1,5 @@
--- Answers as numbers: a refusal beyond 256, no more steps than 16 bits hold, a frame's length.
+-- Answers as numbers: a refusal beyond 256, and no more steps than 16 bits hold.
+use Rattle.std.specs.Prelude.{Ok, Err}
 use Prim.Native.Nat.{ℕ, ◌+◌, ◌/◌, ◌≤◌}
 use mathlib.Core.Bool.{Bool, true, false, cond}
 use mathlib.Core.Path.{◌≡◌, refl}
@@ -8,17 +9,13 @@ use lib.ListN.{length}
 use borrow.Author.Tests.{ne_eqb}
 use Rattle.error.specs.declared.Refusal.{Refusal}
 use Rattle.error.specs.declared.Refusal.TheVariants.{LongFrame, OddProgram}
-use Rattle.error.specs.Answer.{Out, refused, done, number_of}
+use Rattle.error.specs.Answer.{number_of}
 use Rattle.bpf.specs.Program.{insns_at}
 use Rattle.bpf.specs.Bytes.{long_frame}
 use Rattle.bpf.proofs.Programs.{length_insns}
-use Rattle.vm.specs.declared.RunResult.TheVariants.{Ran, Refused}
 use Rattle.vm.specs.Machine.{inner, odd_program, run, steps_of}
 use Rattle.vm.proofs.Steps.{inner_steps}
 use Rattle.machine.proofs.Entry.{odd_long}
-use Rattle.capture.specs.declared.FrameResult.{FrameResult}
-use Rattle.capture.specs.declared.FrameResult.TheVariants as F
-use Rattle.capture.specs.Promises.{framed_of}
 use Rattle.pft.specs.Numbers.{beyond}
 
 -- the number of a refusal as code makes it
@@ -31,16 +28,7 @@ unfolding run
 run_steps p f = go (odd_program p) (long_frame f) refl
   where
     go : (odd long : Bool) → odd_program p ≡ odd
-        → steps_of (cond odd (Refused OddProgram) (cond long (Refused LongFrame) (Ran (inner (insns_at (length p / 8) 0 p) f)))) ≤ 4096
+        → steps_of (cond odd (Err OddProgram) (cond long (Err LongFrame) (Ok (inner (insns_at (length p / 8) 0 p) f)))) ≤ 4096
     go true long h = omega arith
     go false true h = omega arith
     go false false h = omega (arith, odd_long (length p) h, inner_steps (insns_at (length p / 8) 0 p) f, length_insns (length p / 8) 0 p)
-
--- a frame's length, or its refusal, as the code has it
-pub framed_size : (x : Out ℕ) {n : ℕ} {r : FrameResult} → r ≡ framed_of x → r ≡ F.Size n → x ≡ done n
-framed_size (refused q) e h = let z : ◌≡◌ {A = ℕ} 0 1 = cc in absurd (omega arith)
-framed_size (done m) e h = cc
-
-pub framed_refused : (x : Out ℕ) {q : Refusal} {r : FrameResult} → r ≡ framed_of x → r ≡ F.Refused q → x ≡ refused q
-framed_refused (refused p) e h = cc
-framed_refused (done m) e h = let z : ◌≡◌ {A = ℕ} 0 1 = cc in absurd (omega arith)

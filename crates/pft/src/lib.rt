@@ -1,7 +1,7 @@
 // The functions that Rust and C call by the archive of the crate pft_c, each answering one number.
 #![tactic(auto)]
 
-ghost use Rattle.std.specs.Prelude.{◌≡◌, cond, ◌+◌, ◌*◌, ◌^◌, ◌≤◌, length};
+ghost use Rattle.std.specs.Prelude.{◌≡◌, ◌+◌, ◌*◌, ◌^◌, ◌≤◌, length};
 ghost use Rattle.error.specs.Answer.{number_of};
 ghost use Rattle.vm.specs.Machine as M;
 ghost use Rattle.direct.specs.Direct.{direct};
@@ -11,20 +11,19 @@ ghost use Rattle.count.specs.Count.{count};
 ghost use Rattle.typing.specs.Typed.{typed};
 ghost use Rattle.pft.specs.Numbers.{version, run_number, build_number, direct_number, count_number, frame_number, type_number};
 
-use build::BuildResult;
-use capture::{CountResult, FrameResult};
-use direct::DirectResult;
-use error::{Refusal, refusal_number};
-use typing::TypeResult;
-use vm::{RunResult, verdict_number};
+use capture::Halt;
+use error::Refusal;
+use typing::Fault;
 
 const VERSION: u32 = 5;
 
-fn truth(b: bool) -> u32
-    ensures { result ≡ cond b 1 0 }
-{
-    if b { 1 } else { 0 }
-}
+// A refusal stands above the 16 bits of a count of instructions, and above the 32 bits of a count of frames or a place.
+const ABOVE_COUNT: u32 = 1 << 16;
+
+const ABOVE_PLACE: u64 = 1 << 32;
+
+// A refusal where a verdict or a truth stands else.
+const REFUSED: u32 = 256;
 
 // The number of this interface.
 pub fn pft_version() -> u32
@@ -34,12 +33,12 @@ pub fn pft_version() -> u32
 }
 
 // A count, or a refusal times 65,536.
-fn build_number(res: BuildResult) -> u32
+fn build_number(res: Result<u32, Refusal>) -> u32
     ensures { result ≡ build_number res }
 {
     match res {
-        BuildResult::Count(n) => n,
-        BuildResult::Refused(r) => refusal_number(r) * 65536,
+        Ok(n) => n,
+        Err(refusal) => u32::from(refusal) * ABOVE_COUNT,
     }
 }
 
@@ -69,8 +68,8 @@ pub fn pft_direct(tree: &[u8], frame: &[u8]) -> u32
     ensures { result ≡ direct_number (direct tree.now frame.now) }
 {
     match evaluate::direct_reading(tree, frame) {
-        DirectResult::Is(b) => truth(b),
-        DirectResult::Refused(r) => 256 + refusal_number(r),
+        Ok(truth) => u32::from(truth),
+        Err(refusal) => REFUSED + u32::from(refusal),
     }
 }
 
@@ -78,13 +77,9 @@ pub fn pft_direct(tree: &[u8], frame: &[u8]) -> u32
 pub fn pft_run(program: &[u8], frame: &[u8]) -> u32
     ensures { result ≡ run_number (M.run program.now frame.now) }
 {
-    let result = machine::run(program, frame);
-    match result {
-        RunResult::Ran(outcome) => {
-            let verdict = outcome.verdict;
-            verdict_number(verdict) * 65536 + outcome.steps
-        }
-        RunResult::Refused(refusal) => (256 + refusal_number(refusal)) * 65536,
+    match machine::run(program, frame) {
+        Ok(outcome) => u32::from(outcome.verdict) * ABOVE_COUNT + outcome.steps,
+        Err(refusal) => (REFUSED + u32::from(refusal)) * ABOVE_COUNT,
     }
 }
 
@@ -93,7 +88,7 @@ fn beside(refusal: Refusal, n: u64) -> u64
     requires { n + 2 ^ 40 ≤ 2 ^ 64 }
     ensures { result ≡ number_of refusal * 2 ^ 32 + n }
 {
-    refusal_number(refusal) as u64 * 4294967296 + n
+    u64::from(u32::from(refusal)) * ABOVE_PLACE + n
 }
 
 // The count of a capture's frames that a tree file's program accepts, as one number.
@@ -101,8 +96,8 @@ pub fn pft_count(tree: &[u8], program: &mut [u8], capture: &[u8]) -> u64
     ensures { (result ≡ count_number (count tree.now (length program.old) capture.now).answer) × (program.new ≡ (count tree.now (length program.old) capture.now).buffer) }
 {
     match count::count(tree, program, capture) {
-        CountResult::Count(tally) => tally.kept,
-        CountResult::Refused(r, tally) => beside(r, tally.kept),
+        Ok(tally) => tally.kept,
+        Err(Halt { refusal, tally }) => beside(refusal, tally.kept),
     }
 }
 
@@ -111,8 +106,8 @@ pub fn pft_frame(capture: &[u8], at: usize) -> u64
     ensures { result ≡ frame_number (frame_at capture.now at) }
 {
     match capture::frame_at(capture, at) {
-        FrameResult::Size(n) => n as u64,
-        FrameResult::Refused(r) => beside(r, 0),
+        Ok(n) => n as u64,
+        Err(refusal) => beside(refusal, 0),
     }
 }
 
@@ -121,7 +116,7 @@ pub fn pft_type(link: u8, text: &[u8], tree: &mut [u8; 3080]) -> u64
     ensures { (result ≡ type_number (typed link text.now).answer) × (tree.new ≡ (typed link text.now).tree) }
 {
     match type_line::type_line(link, text, tree) {
-        TypeResult::Length(n) => n as u64,
-        TypeResult::Refused(r, place) => beside(r, place as u64),
+        Ok(n) => n as u64,
+        Err(Fault { refusal, place }) => beside(refusal, place as u64),
     }
 }

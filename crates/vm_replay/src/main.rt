@@ -12,16 +12,20 @@
 //   10-11  how many zeros follow the frame's
 #![tactic(auto)]
 
-ghost use Rattle.std.specs.Prelude.{◌≤◌, ◌<◌, ◌≡◌, IfOk, length};
+ghost use Rattle.std.specs.Prelude.{◌≡◌};
 ghost use Rattle.vm.specs.Machine.{refusal_of, verdict_of, steps_of};
 
-use error::refusal_number;
-use std::io;
+use error::Refusal;
+use std::alloc::Global;
+use std::fmt::{Display, Formatter};
 use std::io::{BufReader, BufWriter, Read, Write};
-use vm::{RunResult, Verdict, verdict_number};
+use std::{fmt, io};
+use vm::{Outcome, Verdict};
 
-// What a run says, in the numbers of a case.
-#[derive(Clone, Copy)]
+const GROUPS: [&str; 4] = ["hand-made", "every code", "random", "refusals"];
+
+// What a run says, in the numbers of a case. No run and no stored case says all zeros, which stand for a case that cannot be read.
+#[derive(Clone, Copy, Debug, Default, PartialEq, Eq)]
 struct Said {
     refusal: u32,
     answer: u8,
@@ -29,11 +33,11 @@ struct Said {
     steps: u32,
 }
 
-// The bytes of a program or a frame: so many are stored, zeros follow up to the length.
+// The bytes of a program or a frame: so many are stored, and so many zeros follow.
 #[derive(Clone, Copy)]
 struct Size {
-    stored: usize,
-    length: usize,
+    stored: u16,
+    zeros: u16,
 }
 
 #[derive(Clone, Copy)]
@@ -43,7 +47,7 @@ struct Case {
     frame: Size,
 }
 
-#[derive(Clone, Copy)]
+#[derive(Clone, Copy, Default)]
 struct Tally {
     runs: u64,
     differences: u64,
@@ -52,6 +56,7 @@ struct Tally {
 // ---- the run's answer in numbers
 
 // "Rust's None is short or broken."
+// A function: both types of a `From` would be other crates'.
 fn answer_number(v: Verdict) -> u8 {
     match v {
         Verdict::Accepted => 1,
@@ -60,238 +65,157 @@ fn answer_number(v: Verdict) -> u8 {
     }
 }
 
-fn said_of(r: RunResult) -> Said
-    ensures refusal { result.refusal ≡ refusal_of r }
-    ensures verdict { result.verdict ≡ verdict_of r }
-    ensures steps { result.steps ≡ steps_of r }
-{
-    match r {
-        RunResult::Ran(o) => {
-            let v = o.verdict;
-            Said {
+impl From<Result<Outcome, Refusal>> for Said {
+    ghost from_gives = { λ r s. (s.refusal ≡ refusal_of r) × (s.verdict ≡ verdict_of r) × (s.steps ≡ steps_of r) };
+
+    fn from(r: Result<Outcome, Refusal>) -> Said {
+        match r {
+            Ok(o) => Said {
                 refusal: 0,
-                answer: answer_number(v),
-                verdict: verdict_number(v),
+                answer: answer_number(o.verdict),
+                verdict: u32::from(o.verdict),
                 steps: o.steps,
-            }
+            },
+            Err(f) => Said {
+                refusal: u32::from(f),
+                answer: 0,
+                verdict: 0,
+                steps: 0,
+            },
         }
-        RunResult::Refused(f) => Said {
-            refusal: refusal_number(f),
-            answer: 0,
-            verdict: 0,
-            steps: 0,
-        },
     }
 }
 
-fn same(a: Said, b: Said) -> bool {
-    a.refusal == b.refusal && a.answer == b.answer && a.verdict == b.verdict && a.steps == b.steps
+impl Display for Said {
+    fn fmt<W: fmt::Write>(&self, f: &mut Formatter<W>) -> fmt::Result {
+        let Said {
+            refusal,
+            answer,
+            verdict,
+            steps,
+        } = *self;
+        write!(
+            f,
+            "refusal {refusal} answer {answer} verdict {verdict} steps {steps}"
+        )
+    }
+}
+
+// ---- the tally
+
+impl Display for Tally {
+    fn fmt<W: fmt::Write>(&self, f: &mut Formatter<W>) -> fmt::Result {
+        let Tally { runs, differences } = *self;
+        write!(f, "{runs} runs, {differences} differences")
+    }
+}
+
+impl Tally {
+    fn count(&mut self, is_same: bool) {
+        self.runs = self.runs.saturating_add(1);
+        if !is_same {
+            self.differences = self.differences.saturating_add(1);
+        }
+    }
+
+    fn add(&mut self, other: Tally) {
+        self.runs = self.runs.saturating_add(other.runs);
+        self.differences = self.differences.saturating_add(other.differences);
+    }
 }
 
 // ---- a case
 
-fn half(high: u8, low: u8) -> u32
-    ensures { result < 65536 }
-{
-    high as u32 * 256 + low as u32
-}
-
-fn size_of(stored: u32, zeros: u32) -> Size
-    requires stored { stored < 65536 }
-    requires zeros { zeros < 65536 }
-{
-    Size {
-        stored: stored as usize,
-        length: (stored + zeros) as usize,
-    }
-}
-
-fn case_of(h: &[u8; 12]) -> Case {
-    Case {
-        said: Said {
-            refusal: half(0, h[2]),
-            answer: h[0],
-            verdict: half(0, h[1]),
-            steps: half(h[4], h[5]),
-        },
-        program: size_of(half(h[6], h[7]), half(h[8], h[9])),
-        frame: size_of(half(0, h[3]), half(h[10], h[11])),
-    }
-}
-
-// Reads to the front of a buffer, until it is full or the input ends, and answers how many bytes came.
-fn read_full<R: Read>(input: &mut R, buffer: &mut [u8]) -> usize
-    ensures { result ≤ length buffer.new }
-{
-    let mut done = 0;
-    while done < buffer.len() {
-        match input.read(&mut buffer[done..]) {
-            Ok(0) | Err(_) => break,
-            Ok(n) => done += n,
+impl From<[u8; 12]> for Case {
+    fn from(h: [u8; 12]) -> Case {
+        Case {
+            said: Said {
+                refusal: u32::from(h[2]),
+                answer: h[0],
+                verdict: u32::from(h[1]),
+                steps: u32::from(u16::from_be_bytes([h[4], h[5]])),
+            },
+            program: Size {
+                stored: u16::from_be_bytes([h[6], h[7]]),
+                zeros: u16::from_be_bytes([h[8], h[9]]),
+            },
+            frame: Size {
+                stored: u16::from(h[3]),
+                zeros: u16::from_be_bytes([h[10], h[11]]),
+            },
         }
     }
-    done
 }
 
-// Reads the stored bytes to the front of a buffer of zeros. False: the buffer is too small, or the input ends.
-fn fill<R: Read>(input: &mut R, buffer: &mut [u8], size: Size) -> bool {
-    let n = size.stored;
-    if buffer.len() < size.length {
-        return false;
+// ---- the replay
+
+// Each of the two replays has its own: what they share is the reading of a count and of some bytes.
+#[derive(Drop)]
+struct Replay<R, W> {
+    alloc: Global,
+    input: R,
+    out: W,
+}
+
+impl<R: Read, W: Write> Replay<R, W> {
+    fn bytes(&mut self, size: Size) -> io::Result<Vec<u8>> {
+        let mut bytes = vec![in self.alloc; 0; usize::from(size.stored)]?;
+        self.input.read_exact(&mut bytes)?;
+        let length = usize::from(size.stored) + usize::from(size.zeros);
+        bytes.resize(length, 0)?;
+        Ok(bytes)
     }
-    if buffer.len() < n {
-        return false;
+
+    fn run(&mut self, case: Case) -> io::Result<Said> {
+        let program = self.bytes(case.program)?;
+        let frame = self.bytes(case.frame)?;
+        Ok(Said::from(machine::run(&program, &frame)))
     }
-    let got = read_full(input, &mut buffer[0..n]);
-    got == n
-}
 
-// The first n bytes.
-fn first(buffer: &[u8], n: usize) -> &[u8] {
-    if n <= buffer.len() {
-        &buffer[0..n]
-    } else {
-        buffer
-    }
-}
-
-// What a case says that cannot be read; no stored case says that.
-fn unread() -> Said {
-    Said {
-        refusal: 0,
-        answer: 0,
-        verdict: 0,
-        steps: 0,
-    }
-}
-
-fn run_case<R: Read>(input: &mut R, program: Size, frame: Size) -> Said {
-    let mut p = [0u8; 65600];
-    if !fill(input, &mut p, program) {
-        return unread();
-    }
-    let mut f = [0u8; 65600];
-    if !fill(input, &mut f, frame) {
-        return unread();
-    }
-    let result = machine::run(first(&p, program.length), first(&f, frame.length));
-    said_of(result)
-}
-
-// ---- the output
-
-fn text<W: Write>(out: &mut W, s: &[u8]) -> io::Result<()> {
-    out.write_all(s)
-}
-
-fn number<W: Write>(out: &mut W, n: u64) -> io::Result<()> {
-    write!(out, "{n}")
-}
-
-fn print_said<W: Write>(out: &mut W, s: Said) -> io::Result<()> {
-    text(out, b"refusal ")?;
-    number(out, s.refusal as u64)?;
-    text(out, b" answer ")?;
-    number(out, s.answer as u64)?;
-    text(out, b" verdict ")?;
-    number(out, s.verdict as u64)?;
-    text(out, b" steps ")?;
-    number(out, s.steps as u64)
-}
-
-fn print_difference<W: Write>(
-    out: &mut W,
-    group: &[u8],
-    index: u64,
-    here: Said,
-    stored: Said,
-) -> io::Result<()> {
-    text(out, group)?;
-    text(out, b" ")?;
-    number(out, index)?;
-    text(out, b": ")?;
-    print_said(out, here)?;
-    text(out, b", stored ")?;
-    print_said(out, stored)?;
-    text(out, b"\n")
-}
-
-fn print_tally<W: Write>(out: &mut W, t: Tally) -> io::Result<()> {
-    number(out, t.runs)?;
-    text(out, b" runs, ")?;
-    number(out, t.differences)?;
-    text(out, b" differences\n")
-}
-
-// ---- the groups
-
-// Runs the next case, and answers whether the run says what is stored.
-fn replay<R: Read, W: Write>(
-    input: &mut R,
-    out: &mut W,
-    group: &[u8],
-    index: u64,
-) -> io::Result<bool> {
-    let mut head = [0u8; 12];
-    let got = read_full(input, &mut head);
-    if got < 12 {
-        return Ok(false);
-    }
-    let c = case_of(&head);
-    let here = run_case(input, c.program, c.frame);
-    if same(here, c.said) {
-        return Ok(true);
-    }
-    print_difference(out, group, index, here, c.said)?;
-    Ok(false)
-}
-
-// Of the next cases, so many.
-fn count_differences<R: Read, W: Write>(
-    input: &mut R,
-    out: &mut W,
-    group: &[u8],
-    runs: u64,
-) -> io::Result<u64>
-    ensures { IfOk result (λ n. n ≤ runs) }
-{
-    let mut differences: u64 = 0;
-    for index in 0..runs {
-        if !replay(input, out, group, index)? {
-            differences += 1;
+    // Runs the next case, and answers whether the run says what is stored.
+    fn case(&mut self, group: &str, index: u64) -> io::Result<bool> {
+        let mut head = [0u8; 12];
+        if self.input.read_exact(&mut head).is_err() {
+            return Ok(false);
         }
+        let case = Case::from(head);
+        let stored = case.said;
+        let here = self.run(case).unwrap_or_default();
+        if here == stored {
+            return Ok(true);
+        }
+        write!(self.out, "{group} {index}: {here}, stored {stored}\n")?;
+        Ok(false)
     }
-    Ok(differences)
-}
 
-fn replay_group<R: Read, W: Write>(input: &mut R, out: &mut W, group: &[u8]) -> io::Result<Tally>
-    ensures runs { IfOk result (λ t. t.runs < 65536) }
-    ensures differences { IfOk result (λ t. t.differences < 65536) }
-{
-    let mut count = [0u8; 2];
-    read_full(input, &mut count);
-    let runs = half(count[0], count[1]) as u64;
-    let t = Tally {
-        runs: runs,
-        differences: count_differences(input, out, group, runs)?,
-    };
-    text(out, group)?;
-    text(out, b": ")?;
-    print_tally(out, t)?;
-    Ok(t)
+    // An input that ends before a group has no cases of it.
+    fn group(&mut self, group: &str) -> io::Result<Tally> {
+        let mut count = [0u8; 2];
+        let _ = self.input.read_exact(&mut count);
+        let mut tally = Tally::default();
+        for index in 0..u64::from(u16::from_be_bytes(count)) {
+            tally.count(self.case(group, index)?);
+        }
+        write!(self.out, "{group}: {tally}\n")?;
+        Ok(tally)
+    }
+
+    fn all(&mut self) -> io::Result<()> {
+        let mut tally = Tally::default();
+        for group in GROUPS {
+            tally.add(self.group(group)?);
+        }
+        write!(self.out, "{tally}\n")?;
+        self.out.flush()
+    }
 }
 
 fn main(rt: HostRuntime) -> io::Result<()> {
-    let mut input = BufReader::new(rt.alloc(), rt.reader())?;
-    let mut out = BufWriter::new(rt.alloc(), io::writer(&rt))?;
-    let a = replay_group(&mut input, &mut out, b"hand-made")?;
-    let b = replay_group(&mut input, &mut out, b"every code")?;
-    let c = replay_group(&mut input, &mut out, b"random")?;
-    let d = replay_group(&mut input, &mut out, b"refusals")?;
-    let all = Tally {
-        runs: a.runs + b.runs + c.runs + d.runs,
-        differences: a.differences + b.differences + c.differences + d.differences,
+    let alloc = rt.alloc();
+    let mut replay = Replay {
+        alloc,
+        input: BufReader::new(alloc, rt.reader())?,
+        out: BufWriter::new(alloc, io::writer(&rt))?,
     };
-    print_tally(&mut out, all)?;
-    out.flush()
+    replay.all()
 }

@@ -8,5 +8,5 @@ use Rattle.pft.proofs.pft_count.Goals as goal
 pub beside-requires : goal.beside-requires
 beside-requires c =
     let k = count_small c.args.tree.now (length c.args.program.now) c.args.capture.now in
-    let e = ap (λ x. (frames_in x).kept) (sym c.count.ensures.0 ∙ c.in-Refused.is) in
+    let e = ap (λ x. (frames_in x).kept) (sym c.count.ensures.0 ∙ c.in-Err.is) in
     omega arith

@@ -1,0 +1,21 @@
+// How the work ends, and the exit status.
+
+// How the work ended, as the exit status has it. Where parts of it end differently the largest holds.
+#[derive(Clone, Copy, Debug, PartialEq, Eq, PartialOrd, Ord)]
+pub enum Ended {
+    Done = 0,
+    Refused = 1,
+    Usage = 2,
+    Failed = 3,
+}
+
+// A part of the work. An `Err` ends all of it.
+pub type Work<T> = Result<T, Ended>;
+
+// The descriptor that takes the exit status, a digit. The scripts that start the program read it there: a program that was stopped has an
+// exit status of its own too.
+const STATUS_FILENO: i32 = 9;
+
+pub fn tell(ended: Ended) {
+    io::print_decimal(STATUS_FILENO, ended as u64);
+}
