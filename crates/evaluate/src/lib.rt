@@ -133,7 +133,8 @@ impl<'a> Packet<'a> {
         }
     }
 
-    // The ethertype is this, and the byte at a place behind the network header's start is p.
+    // The ethertype is this, and the byte at a place behind the network header's start is p. Here and below places are under 60,000, so that
+    // sums of them fit: each function has its own.
     fn carries(self, ethertype: u16, at: usize, p: u8) -> bool
         requires { at < 60000 }
         ensures { result ≡ (R.kind self.entry.link self.entry.frame.now ethertype && eqb (R.b self.entry.frame.now (R.network_start self.entry.link + at)) p) }

@@ -67,7 +67,8 @@ fn refusal_words(r: Refusal) -> &'static str {
     }
 }
 
-// A refusal by number and word.
+// A refusal by number and word. It stands in a type of its own, as verdicts, links and reasons do below: the crates that have these values
+// have no words, since C's archive needs none.
 #[derive(Clone, Copy)]
 pub struct Refused(pub Refusal);
 

@@ -38,6 +38,7 @@ fn mask_at(i: u8, full: u8, part: u16) -> u16
 }
 
 // Eight in a literal: a loop with a mask from a table was slower.
+// Widened by `as`: behind `u32::from` the goal stayed open.
 fn masks_of(prefix: u8) -> [u16; 8]
     ensures { result ≡ N.masks prefix }
 {

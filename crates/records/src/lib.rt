@@ -22,7 +22,7 @@ struct Order {
 }
 
 impl Order {
-    // Joins that wait at this depth or deeper go before what is done.
+    // Joins that wait at this depth or deeper go before what is done. A depth is widened by `as`: behind `usize::from` the proof stayed open.
     fn pop(&mut self, depth: usize)
         requires { O.Roomy 0 self.old }
         ensures { O.Pops depth self.old self.new }
@@ -138,7 +138,7 @@ fn put(tree: &mut [u8], at: usize, part: &[u8])
     tree[at..at + part.len()].copy_from_slice(part);
 }
 
-// The records of items, behind the header.
+// The records of items, behind the header. The bound on them is the public function's, handed on.
 fn write_items(tree: &mut [u8], items: &[Item])
     requires { (length items.now ≤ 128) × (8 + 24 * length items.now ≤ length tree.old) }
     ensures { tree.new ≡ take 8 tree.old ++ O.file_bytes items.now ++ drop (8 + 24 * length items.now) tree.old }

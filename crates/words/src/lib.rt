@@ -54,7 +54,7 @@ const BYTE_MOST: u32 = 255;
 
 const PORT_MOST: u32 = 65535;
 
-// Digits as a number up to a limit; no bytes at all are 0.
+// Digits as a number up to a limit; no bytes at all are 0. A digit is widened by `as`: behind `u32::from` the goal stayed open.
 fn digits(text: &[u8], most: u32) -> Option<u32>
     requires { most ≤ 65535 }
     ensures { result ≡ counted most 0 text.now }
