@@ -1,5 +1,5 @@
 -- What the functions of this crate promise one another: the line's words as items, each a record with the brackets open at its place.
-use Rattle.std.specs.Prelude.{ℕ, ◌+◌, ◌-◌, ◌≤◌, min, max, List, [], ◌∷◌, Bool, true, false, cond, ◌&&◌, set, eqb, Option, None, Some, Result, Ok, Err}
+use Rattle.std.specs.Prelude.{ℕ, ◌+◌, ◌-◌, ◌%◌, ◌≤◌, max, List, [], ◌∷◌, Bool, true, false, cond, ◌&&◌, set, eqb, Option, None, Some, Result, Ok, Err}
 use Rattle.error.specs.declared.Refusal.TheVariants.{UnknownWord, Unfinished}
 use Rattle.typing.specs.declared.Fault.{Fault}
 use Rattle.typing.specs.declared.Side.{Side}
@@ -19,9 +19,9 @@ use Rattle.lines.specs.declared.Move.{Move}
 use Rattle.lines.specs.declared.Move.TheVariants.{Go, Put, Open, Close}
 use Rattle.lines.specs.declared.Sum.{Sum}
 
--- a record, and the brackets open at its place: 255 for more
+-- a record, and the brackets open at its place: their number's lowest byte
 abbrev pub item : ℕ → Entry → Item
-item d e = record { depth = min d 255; entry = e }
+item d e = record { depth = d % 256; entry = e }
 
 abbrev pub size : ℕ → ℕ → Size
 size n m = record { records = n; deepest = m }

@@ -8,7 +8,7 @@ ghost use Rattle.lines.specs.declared.Entry.TheVariants.{Leaf};
 ghost use Rattle.lines.specs.declared.Move.TheVariants.{Go, Put};
 
 use error::Refusal;
-use std::cmp::{max, min};
+use std::cmp::max;
 use typing::{Fault, Join, Side, Term, Transport, Word};
 
 // What a record stands for.
@@ -19,14 +19,15 @@ pub enum Entry {
     Leaf(Term),
 }
 
-// A record, and the brackets that are open at its place: 255 for more.
+// A record, and the lowest byte of the number of brackets that are open at its place: a line with more than 128 is refused.
 #[derive(Clone, Copy, Debug, PartialEq, Eq)]
 pub struct Item {
     pub depth: u8,
     pub entry: Entry,
 }
 
-const DEPTH_MOST: usize = 255;
+// How many values a byte has.
+const BYTES: usize = 256;
 
 // What stands in an array of items where no record is yet.
 pub const BLANK: Item = Item {
@@ -147,7 +148,7 @@ impl<'a> Reader<'a> {
         ensures items { self.new.items.now ≡ set self.old.items.now self.old.sum.count (R.item self.old.sum.depth entry) }
         ensures same_reference { self.new.items.ghost_name ≡ self.old.items.ghost_name }
     {
-        let depth = min(self.sum.depth, DEPTH_MOST) as u8;
+        let depth = (self.sum.depth % BYTES) as u8;
         let item = Item { depth, entry };
         store(self.items, self.sum.count, item);
         self.sum.count += 1;
