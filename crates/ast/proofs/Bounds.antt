@@ -27,18 +27,14 @@ infixr 5 ◌&◌
 ◌&◌ : {A B : Type 0} → A → B → A × B
 ◌&◌ a b = (a, b)
 
-abbrev Every : {A : Type 0} → (A → Type 0) → List A → Type 0
-Every q [] = Unit {0}
-Every q (x ∷ xs) = q x × Every q xs
+each_at : {A : Type 0} (q : A → Type 0) (xs : List A) (n : ℕ) (d : A) → Each q xs → q d → q (get_or xs n d)
+each_at q [] n d h k = k
+each_at q (x ∷ xs) zero d h k = h.0
+each_at q (x ∷ xs) (suc n) d h k = each_at q xs n d h.1 k
 
-every_at : {A : Type 0} (q : A → Type 0) (xs : List A) (n : ℕ) (d : A) → Every q xs → q d → q (get_or xs n d)
-every_at q [] n d h k = k
-every_at q (x ∷ xs) zero d h k = h.0
-every_at q (x ∷ xs) (suc n) d h k = every_at q xs n d h.1 k
-
-every_append : {A : Type 0} (q : A → Type 0) (xs ys : List A) → Every q (xs ++ ys) → Every q xs × Every q ys
-every_append q [] ys h = (tt, h)
-every_append q (x ∷ xs) ys h = let k = every_append q xs ys h.1 in ((h.0, k.0), k.1)
+each_append : {A : Type 0} (q : A → Type 0) (xs ys : List A) → Each q (xs ++ ys) → Each q xs × Each q ys
+each_append q [] ys h = (tt, h)
+each_append q (x ∷ xs) ys h = let k = each_append q xs ys h.1 in ((h.0, k.0), k.1)
 
 pub each : (q : ℕ → Type 0) (ns : List ℕ) → ((i : ℕ) → q (get_or ns i 0)) → Each q ns
 each q [] h = tt
@@ -54,9 +50,9 @@ ProperNode (LeafNode p) = ProperPrimitive p
 
 proto_proper : (p n : ℕ) → Byte n → ProperProto (proto_of p n)
 proto_proper p n h =
-    every_at ProperProto (protos n) (p - 1) Ip (omega arith) tt
+    each_at ProperProto (protos n) (p - 1) Ip (omega arith) tt
 
-node_by_lem : (ks : List Kind) (r : Record) → Every (λ k. ProperNode (k.node r)) ks → All ProperNode (node_by ks r)
+node_by_lem : (ks : List Kind) (r : Record) → Each (λ k. ProperNode (k.node r)) ks → All ProperNode (node_by ks r)
 unfolding node_by
 node_by_lem [] r h = tt
 node_by_lem (k ∷ ks) r h =
@@ -104,19 +100,19 @@ module _ (s : List ℕ) (bytes : AreBytes s) where
       ether : (length (take 6 address) ≡ 6) × Each Byte (take 6 address)
       ether = rw (take_bytes 6 16 (at + 8) s (omega arith)) (length_bytes 6 (at + 8) s, each Byte (bytes_at 6 (at + 8) s) (bytes_are_lem s bytes 6 (at + 8)))
 
-  nodes_proper : (n at : ℕ) → All (Every ProperNode) (nodes_at n at s)
+  nodes_proper : (n at : ℕ) → All (Each ProperNode) (nodes_at n at s)
   unfolding nodes_at
   nodes_proper zero at = tt
   nodes_proper (suc n) at =
       all_bind ProperNode _ (node_at at s) _ (node_proper at)
-      (λ x p. all_bind (Every ProperNode) _ (nodes_at n (at + 24) s) _ (nodes_proper n (at + 24)) (λ ns k. (p, k)))
+      (λ x p. all_bind (Each ProperNode) _ (nodes_at n (at + 24) s) _ (nodes_proper n (at + 24)) (λ ns k. (p, k)))
 
 -- ---- the tree
 
-prefix_proper : (t : Expr) → Every ProperNode (prefix t) → Proper t
+prefix_proper : (t : Expr) → Each ProperNode (prefix t) → Proper t
 prefix_proper (Leaf p) h = h.0
-prefix_proper (And l r) h = let k = every_append ProperNode (prefix l) (prefix r) h.1 in (prefix_proper l k.0, prefix_proper r k.1)
-prefix_proper (Or l r) h = let k = every_append ProperNode (prefix l) (prefix r) h.1 in (prefix_proper l k.0, prefix_proper r k.1)
+prefix_proper (And l r) h = let k = each_append ProperNode (prefix l) (prefix r) h.1 in (prefix_proper l k.0, prefix_proper r k.1)
+prefix_proper (Or l r) h = let k = each_append ProperNode (prefix l) (prefix r) h.1 in (prefix_proper l k.0, prefix_proper r k.1)
 prefix_proper (Not t) h = prefix_proper t h.1
 
 pub parse_header : (s : List ℕ) (f : Filter) → parse s ≡ Ok f → header s ≡ Ok f.link

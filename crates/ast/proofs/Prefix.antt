@@ -54,15 +54,11 @@ trees_prefixes (t ∷ ts) = prefix_before t (prefixes ts) ts (trees_prefixes ts)
 
 grow_prefixes : (x : Node) (us : List Expr) (xs : List Node) → xs ≡ prefixes us → All (λ ts. x ∷ xs ≡ prefixes ts) (grow x us)
 unfolding grow
-grow_prefixes AndNode [] xs h = tt
-grow_prefixes AndNode (l ∷ []) xs h = tt
 grow_prefixes AndNode (l ∷ r ∷ us) xs h = rw (append_assoc, h)
-grow_prefixes OrNode [] xs h = tt
-grow_prefixes OrNode (l ∷ []) xs h = tt
 grow_prefixes OrNode (l ∷ r ∷ us) xs h = rw (append_assoc, h)
-grow_prefixes NotNode [] xs h = tt
 grow_prefixes NotNode (t ∷ us) xs h = rw h
 grow_prefixes (LeafNode p) us xs h = rw h
+grow_prefixes x us xs h = tt
 
 all_prefixes : (ns : List Node) → All (λ ts. ns ≡ prefixes ts) (trees_of ns)
 unfolding trees_of
@@ -75,9 +71,8 @@ prefixes_of ns ts e = rw e at (all_prefixes ns)
 -- ---- one tree
 
 only_prefix : (ns : List Node) (ts : List Expr) → ns ≡ prefixes ts → All (λ t. ns ≡ prefix t) (only ts)
-only_prefix ns [] h = tt
 only_prefix ns (t ∷ []) h = h ∙ append-nil (prefix t)
-only_prefix ns (t ∷ u ∷ ts) h = tt
+only_prefix ns ts h = tt
 
 -- a file's nodes are one tree exactly when they are its prefix order
 pub one_tree : (ns : List Node) (t : Expr) → (trees_of ns >>= only ≡ Ok t) ↔ (ns ≡ prefix t)

@@ -7,9 +7,9 @@ use lib.ListN.{length}
 use Rattle.bpf.specs.Bytes.{AreBytes}
 use Rattle.bpf.specs.Program.{Each}
 use Rattle.ast.specs.declared.Proto.{Proto}
-use Rattle.ast.specs.declared.Proto.TheVariants.{Ip, Ip6, Arp, Rarp, Tcp, Udp, Icmp, Icmp6, Igmp, Sctp, Num, Ip6Proto}
+use Rattle.ast.specs.declared.Proto.TheVariants.{Num, Ip6Proto}
 use Rattle.ast.specs.declared.Primitive.{Primitive}
-use Rattle.ast.specs.declared.Primitive.TheVariants.{Protocol, Host4, Host6, Net, Net6, Port, PortRange, EtherHost, EtherProto, EtherMulticast, IpBroadcast, IpMulticast, Ip6Multicast, IpProtoChain, Ip6ProtoChain}
+use Rattle.ast.specs.declared.Primitive.TheVariants.{Protocol, Host4, Host6, Net, Net6, Port, PortRange, EtherHost, EtherProto, IpProtoChain, Ip6ProtoChain}
 use Rattle.ast.specs.Tree.{Expr, Leaf, And, Or, Not}
 
 abbrev pub Byte : ℕ → Type 0
@@ -22,18 +22,9 @@ abbrev pub Word : ℕ → Type 0
 Word n = n < 2 ^ 32
 
 abbrev pub ProperProto : Proto → Type 0
-ProperProto Ip = Unit {0}
-ProperProto Ip6 = Unit {0}
-ProperProto Arp = Unit {0}
-ProperProto Rarp = Unit {0}
-ProperProto Tcp = Unit {0}
-ProperProto Udp = Unit {0}
-ProperProto Icmp = Unit {0}
-ProperProto Icmp6 = Unit {0}
-ProperProto Igmp = Unit {0}
-ProperProto Sctp = Unit {0}
 ProperProto (Num n) = Byte n
 ProperProto (Ip6Proto n) = Byte n
+ProperProto p = Unit {0}
 
 abbrev pub ProperPrimitive : Primitive → Type 0
 ProperPrimitive (Protocol p) = ProperProto p
@@ -45,12 +36,9 @@ ProperPrimitive (Port d p k) = Half k
 ProperPrimitive (PortRange d p lo hi) = Half lo × Half hi
 ProperPrimitive (EtherHost d a) = (length a ≡ 6) × Each Byte a
 ProperPrimitive (EtherProto v) = Half v
-ProperPrimitive EtherMulticast = Unit {0}
-ProperPrimitive IpBroadcast = Unit {0}
-ProperPrimitive IpMulticast = Unit {0}
-ProperPrimitive Ip6Multicast = Unit {0}
 ProperPrimitive (IpProtoChain n) = Byte n
 ProperPrimitive (Ip6ProtoChain n) = Byte n
+ProperPrimitive p = Unit {0}
 
 abbrev pub Proper : Expr → Type 0
 Proper (Leaf p) = ProperPrimitive p

@@ -8,7 +8,7 @@ use Rattle.error.proofs.All.{Turned, turned_bind, turned_cond}
 use Rattle.bpf.specs.Bytes.{be}
 use Rattle.ast.specs.Tree.{Expr}
 use Rattle.ast.specs.declared.Node.{Node}
-use Rattle.ast.specs.declared.Node.TheVariants.{AndNode, OrNode, NotNode, LeafNode}
+use Rattle.ast.specs.declared.Node.TheVariants.{AndNode, OrNode, NotNode}
 use Rattle.ast.specs.Record.{Record, record_at, Kind, kinds, good, node_by, node_at}
 use Rattle.ast.specs.File.{link_of, strange, header, wrong, count, nodes_at, grow, trees_of, only, parse}
 
@@ -19,11 +19,8 @@ abbrev pub Early : Refusal → Type 0
 Early = Numbered early
 
 link_turned : (b : ℕ) → Turned Early (link_of b)
-link_turned zero = tt
-link_turned (suc zero) = tt
-link_turned (suc (suc zero)) = tt
-link_turned (suc (suc (suc zero))) = tt
 link_turned (suc (suc (suc (suc n)))) = tt
+link_turned b = tt
 
 header_turned : (s : List ℕ) → Turned Early (header s)
 unfolding header
@@ -47,15 +44,10 @@ nodes_turned (suc n) at s =
 
 grow_turned : (x : Node) (ts : List Expr) → Turned Early (grow x ts)
 unfolding grow
-grow_turned AndNode [] = tt
-grow_turned AndNode (l ∷ []) = tt
 grow_turned AndNode (l ∷ r ∷ ts) = tt
-grow_turned OrNode [] = tt
-grow_turned OrNode (l ∷ []) = tt
 grow_turned OrNode (l ∷ r ∷ ts) = tt
-grow_turned NotNode [] = tt
 grow_turned NotNode (t ∷ ts) = tt
-grow_turned (LeafNode p) ts = tt
+grow_turned x ts = tt
 
 trees_turned : (xs : List Node) → Turned Early (trees_of xs)
 unfolding trees_of
@@ -63,9 +55,8 @@ trees_turned [] = tt
 trees_turned (x ∷ xs) = turned_bind Early (trees_of xs) (grow x) (trees_turned xs) (grow_turned x)
 
 only_turned : (ts : List Expr) → Turned Early (only ts)
-only_turned [] = tt
-only_turned (t ∷ []) = tt
 only_turned (t ∷ u ∷ ts) = tt
+only_turned ts = tt
 
 pub parse_turned : (s : List ℕ) → Turned Early (parse s)
 unfolding parse

@@ -5,16 +5,17 @@ use mathlib.Core.Path.{◌≡◌, refl, sym, ap, ap₂, ◌∙◌}
 use mathlib.Core.List.{List, [], ◌∷◌, ◌++◌, append_assoc}
 use native.Mathlib.Omega.{arith}
 use lib.ListN.{length}
+use lib.Dec.{eqb, ltb}
 use borrow.Author.Tests.{ltb-false, eqb-true, eqb-false, not-false}
 use Rattle.error.specs.Answer.{Out, ◌>>=◌}
 use Rattle.error.proofs.All.{All, all_bind, all_cond}
-use Rattle.error.proofs.Either.{neither}
+use Rattle.std.proofs.lemmas.Bool.{or_parts}
 use Rattle.ast.specs.declared.LinkType.{LinkType}
 use Rattle.ast.specs.Tree.{Expr, Leaf, And, Or, Not, records}
 use Rattle.ast.specs.declared.Node.{Node}
 use Rattle.ast.specs.declared.Node.TheVariants.{AndNode, OrNode, NotNode, LeafNode}
 use Rattle.ast.specs.Record.{node_at}
-use Rattle.ast.specs.File.{header, count_of, count, nodes_at, trees_of, only, Filter, parse}
+use Rattle.ast.specs.File.{header, count_of, wrong, count, nodes_at, trees_of, only, Filter, parse}
 use Rattle.ast.proofs.Prefix.{prefix, prefixes, prefix_length, prefixes_of, trees_prefixes}
 
 -- the node of a tree, and its parts before the trees that follow
@@ -45,12 +46,9 @@ stands s n at ns ts e h = record { nodes = e ∙ ap Ok (prefixes_of ns ts h) }
 
 -- ---- lists of nodes
 
-never : {A : Type 0} → ◌≡◌ {A = ℕ} 0 1 → A
-never e = absurd (omega arith)
-
 both_done : (o : Out Node) (p : Out (List Node)) (y : Node) (ys : List Node) → (o >>= λ x. p >>= λ xs. Ok (x ∷ xs)) ≡ Ok (y ∷ ys) → (o ≡ Ok y) × (p ≡ Ok ys)
-both_done (Err r) p y ys e = never cc
-both_done (Ok x) (Err r) y ys e = never cc
+both_done (Err r) p y ys e = cc
+both_done (Ok x) (Err r) y ys e = cc
 both_done (Ok x) (Ok xs) y ys e = (cc, cc)
 
 same_nodes : (s : List ℕ) (m n a b : ℕ) → m ≡ n → a ≡ b → nodes_at m a s ≡ nodes_at n b s
@@ -59,7 +57,7 @@ same_nodes s m n a b p q = ap₂ (λ k c. nodes_at k c s) p q
 nodes_first : (s : List ℕ) (n at : ℕ) (x : Node) (xs : List Node) → nodes_at n at s ≡ Ok (x ∷ xs)
     → (1 ≤ n) × (node_at at s ≡ Ok x) × (nodes_at (n - 1) (at + 24) s ≡ Ok xs)
 unfolding nodes_at
-nodes_first s zero at x xs e = never cc
+nodes_first s zero at x xs e = cc
 nodes_first s (suc n) at x xs e =
     let k = both_done (node_at at s) (nodes_at n (at + 24) s) x xs e in
     (omega arith, k.0, same_nodes s (suc n - 1) n (at + 24) (at + 24) (omega arith) refl ∙ k.1)
@@ -114,17 +112,14 @@ pub record Counted (s : List ℕ) (n : ℕ) : Type 0 where
   pub most : n ≤ 128
   pub whole : length s ≡ 8 + 24 * n
 
-positive : (n : ℕ) → (n ≡ 0 → ⊥) → 1 ≤ n
-positive zero h = absurd (h refl)
-positive (suc n) h = omega arith
-
 all_counted : (s : List ℕ) → All (Counted s) (count s)
 unfolding count
 all_counted s =
-    all_cond (Counted s) _ _ (Ok (count_of s)) (λ e. tt) (λ e.
-    let p = neither _ _ e in
-    let q = neither _ _ p.1 in
-    record { here = refl; least = positive (count_of s) (eqb-false _ _ p.0); most = ltb-false _ _ q.0; whole = eqb-true _ _ (not-false _ q.1) })
+    all_cond (Counted s) (wrong s) _ (Ok (count_of s)) (λ e. tt) (λ e.
+    let p = or_parts (eqb (count_of s) 0) _ e in
+    let q = or_parts (ltb 128 (count_of s)) _ p.1 in
+    let some = eqb-false (count_of s) 0 p.0 in
+    record { here = refl; least = omega arith; most = ltb-false _ _ q.0; whole = eqb-true _ _ (not-false _ q.1) })
 
 pub counted : (s : List ℕ) (n : ℕ) → count s ≡ Ok n → Counted s n
 counted s n e = rw e at (all_counted s)

@@ -11,7 +11,6 @@ use Rattle.ast.specs.declared.Dir.{Dir}
 use Rattle.ast.specs.declared.Dir.TheVariants.{SrcOrDst, Src, Dst, SrcAndDst}
 use Rattle.ast.specs.declared.Proto.{Proto}
 use Rattle.ast.specs.declared.Proto.TheVariants.{Ip, Ip6, Arp, Rarp, Tcp, Udp, Icmp, Icmp6, Igmp, Sctp, Num, Ip6Proto}
-use Rattle.ast.specs.declared.Primitive.{Primitive}
 use Rattle.ast.specs.declared.Primitive.TheVariants.{Protocol, Host4, Host6, Net, Net6, Port, PortRange, EtherHost, EtherProto, EtherMulticast, IpBroadcast, IpMulticast, Ip6Multicast, IpProtoChain, Ip6ProtoChain}
 
 -- "Record: byte 0 kind; byte 1 direction (..); byte 2 protocol; byte 3 small number; bytes 4-5 A; 6-7 B; 8-23 address."

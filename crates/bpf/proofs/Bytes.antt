@@ -1,6 +1,6 @@
 -- Laws of numbers in bytes, at any width.
 use Prim.Native.Nat.{ℕ, zero, suc, ◌+◌, ◌*◌, ◌/◌, ◌%◌, ◌^◌, ◌≤◌, ◌<◌}
-use mathlib.Core.Path.{◌≡◌, refl, sym, ap, ap₂, ◌∙◌}
+use mathlib.Core.Path.{◌≡◌, refl, ap, ap₂}
 use mathlib.Core.List.{List, [], ◌∷◌, ◌++◌, append_assoc}
 use native.Mathlib.Omega.{arith}
 use native.Mathlib.Nat.{add-zero, zero-add, add-suc, div-add-mod', pow-suc}
@@ -41,34 +41,16 @@ le_read (suc n) v pre post h =
     small : v / 256 < 256 ^ n
     small = omega (arith, pow-suc 256 n, h)
 
--- ---- numbers as code reads them, byte by byte: one law for each order, at any width
-
-pub be_next : (n at : ℕ) (s : List ℕ) {v : ℕ} → be n at s ≡ v → be (suc n) at s ≡ v * 256 + get_or s (at + n) 0
-unfolding be
-be_next n at s e = ap (λ w. w * 256 + get_or s (at + n) 0) e
+-- ---- a number's bytes
 
 pub be_first : (at : ℕ) (s : List ℕ) → be 1 at s ≡ get_or s at 0
 unfolding be
 be_first at s = rw (zero-add, add-zero)
 
 pub be_half : (at : ℕ) (s : List ℕ) → be 2 at s ≡ get_or s at 0 * 256 + get_or s (at + 1) 0
-be_half at s = be_next 1 at s (be_first at s)
+unfolding be
+be_half at s = rw (zero-add, add-zero)
 
 pub be_word : (at : ℕ) (s : List ℕ) → be 4 at s ≡ ((get_or s at 0 * 256 + get_or s (at + 1) 0) * 256 + get_or s (at + 2) 0) * 256 + get_or s (at + 3) 0
-be_word at s = be_next 3 at s (be_next 2 at s (be_half at s))
-
-pub le_next : (n at next : ℕ) (s : List ℕ) {v : ℕ} → next ≡ suc at → le_at n next s ≡ v → le_at (suc n) at s ≡ get_or s at 0 + 256 * v
-unfolding le_at
-le_next n at next s p e = ap (λ w. get_or s at 0 + 256 * w) (ap (λ a. le_at n a s) (sym p) ∙ e)
-
-pub le_last : (at : ℕ) (s : List ℕ) → le_at 1 at s ≡ get_or s at 0
-unfolding le_at
-le_last at s = omega arith
-
-pub le_half : (at : ℕ) (s : List ℕ) → le_at 2 at s ≡ get_or s at 0 + get_or s (at + 1) 0 * 256
-le_half at s = le_next 1 at (at + 1) s (omega arith) (le_last (at + 1) s) ∙ omega arith
-
-pub le_word : (at : ℕ) (s : List ℕ) → le_at 4 at s ≡ get_or s at 0 + get_or s (at + 1) 0 * 256 + get_or s (at + 2) 0 * 65536 + get_or s (at + 3) 0 * 16777216
-le_word at s =
-    le_next 3 at (at + 1) s (omega arith) (le_next 2 (at + 1) (at + 2) s (omega arith) (le_next 1 (at + 2) (at + 3) s (omega arith) (le_last (at + 3) s)))
-    ∙ omega arith
+unfolding be
+be_word at s = rw (zero-add, add-zero)

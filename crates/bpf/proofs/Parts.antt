@@ -3,24 +3,18 @@ use Prim.Native.Nat.{ℕ, zero, suc, ◌+◌, ◌*◌, ◌^◌, ◌≤◌, ◌<�
 use mathlib.Core.Path.{◌≡◌, refl, ap, ap₂, ◌∙◌}
 use mathlib.Core.List.{List, ◌∷◌}
 use native.Mathlib.Omega.{arith}
-use native.Mathlib.Nat.{add-zero, zero-add}
+use native.Mathlib.Nat.{add-zero}
 use lib.ListN.{length, get_or, take}
 use Rattle.bpf.specs.Bytes.{be, AreBytes, bytes_at, segments_at}
-use Rattle.bpf.proofs.Bytes.{be_small}
+use Rattle.bpf.proofs.Bytes.{be_small, be_first}
 
--- ---- one byte
-
-pub be_one : (at : ℕ) (s : List ℕ) → be 1 at s ≡ get_or s at 0
-unfolding be
-be_one at s = rw (add-zero, zero-add)
+-- ---- a byte, a number, the segments and the first bytes of the list are the file's at that place
 
 pub bytes_get : (m at : ℕ) (s : List ℕ) (i : ℕ) → i < m → get_or (bytes_at m at s) i 0 ≡ get_or s (at + i) 0
 unfolding bytes_at
 bytes_get zero at s i h = absurd (omega arith)
-bytes_get (suc m) at s zero h = rw (be_one, add-zero)
+bytes_get (suc m) at s zero h = rw (be_first, add-zero)
 bytes_get (suc m) at s (suc i) h = bytes_get m (at + 1) s i (omega arith) ∙ ap (λ (p : ℕ). get_or s p 0) (omega arith)
-
--- ---- a number, the segments and the first bytes of the list are the file's at that place
 
 pub be_bytes : (n i m at : ℕ) (s : List ℕ) → i + n ≤ m → be n i (bytes_at m at s) ≡ be n (at + i) s
 unfolding be

@@ -31,7 +31,7 @@ targets i x =
     (cond (eqb (x.code / 16 % 16) 0) ((i + 1 + x.k) ∷ []) ((i + 1 + x.jt) ∷ (i + 1 + x.jf) ∷ []))
     []
 
--- every one of these numbers is such
-abbrev pub Each : (ℕ → Type 0) → List ℕ → Type 0
+-- every one of these is such
+abbrev pub Each : {A : Type 0} → (A → Type 0) → List A → Type 0
 Each q [] = Unit {0}
-Each q (n ∷ ns) = q n × Each q ns
+Each q (x ∷ xs) = q x × Each q xs

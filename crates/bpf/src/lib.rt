@@ -15,6 +15,7 @@ pub struct Insn {
 
 // The big-endian numbers at a place. These and the little-endian ones are four functions: one over width and order would hide that each is a
 // conversion of the library.
+#[tactic(auto, unfolding(crate::specs::Bytes::be))]
 pub fn be_u16(bytes: &[u8], at: usize) -> u16
     requires { at + 2 ≤ length bytes.now }
     ensures { result ≡ be 2 at bytes.now }
@@ -23,6 +24,7 @@ pub fn be_u16(bytes: &[u8], at: usize) -> u16
     u16::from_be_bytes(pair)
 }
 
+#[tactic(auto, unfolding(crate::specs::Bytes::be))]
 pub fn be_u32(bytes: &[u8], at: usize) -> u32
     requires { at + 4 ≤ length bytes.now }
     ensures { result ≡ be 4 at bytes.now }
@@ -32,6 +34,7 @@ pub fn be_u32(bytes: &[u8], at: usize) -> u32
 }
 
 // The little-endian numbers.
+#[tactic(auto, unfolding(crate::specs::Bytes::le_at))]
 pub fn le_u16(bytes: &[u8], at: usize) -> u16
     requires { at + 2 ≤ length bytes.now }
     ensures { result ≡ le_at 2 at bytes.now }
@@ -40,6 +43,7 @@ pub fn le_u16(bytes: &[u8], at: usize) -> u16
     u16::from_le_bytes(pair)
 }
 
+#[tactic(auto, unfolding(crate::specs::Bytes::le_at))]
 pub fn le_u32(bytes: &[u8], at: usize) -> u32
     requires { at + 4 ≤ length bytes.now }
     ensures { result ≡ le_at 4 at bytes.now }

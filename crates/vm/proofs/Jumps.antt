@@ -2,15 +2,16 @@
 use Prim.Native.Nat.{ℕ, zero, suc, ◌+◌, ◌*◌, ◌/◌, ◌%◌, ◌^◌, ◌<◌}
 use mathlib.Core.Path.{◌≡◌, refl, sym, ◌∙◌}
 use mathlib.Core.List.{List, [], ◌∷◌, Memᴰ}
-use mathlib.Core.Bool.{Bool, true, false, cond, ◌&&◌, ◌||◌, true≢false}
+use mathlib.Core.Bool.{Bool, true, false, cond, ◌&&◌, ◌||◌, or-true, true≢false}
 use native.Mathlib.Omega.{arith}
 use lib.Dec.{ltb, eqb}
 use borrow.Author.Tests.{eq-eqb, le-ltb, eqb-true, eqb-false}
+use Rattle.error.specs.Answer.{among}
 use Rattle.bpf.specs.declared.Insn.{Insn}
 use Rattle.bpf.specs.Program.{insn, targets, Each}
 use Rattle.vm.specs.declared.Effect.TheVariants.{Skip}
 use Rattle.vm.specs.Machine.{jmp, effect}
-use Rattle.vm.proofs.Effects.{is_in, within, still}
+use Rattle.vm.proofs.Effects.{within, still}
 
 -- an instruction of class JMP does what its operation says of A and its operand
 jump_is : (f m : List ℕ) (x : Insn) (a b : ℕ) → x.code % 8 ≡ 5 → effect f m x a b ≡ jmp (x.code / 16 % 16) x a (cond (eqb (x.code / 8 % 2) 0) x.k b)
@@ -26,25 +27,18 @@ known_targets op i x = cond (eqb op 0) ((i + 1 + x.k) ∷ []) ((i + 1 + x.jt) �
 abbrev targets_by : ℕ → ℕ → Insn → List ℕ
 targets_by op i x = cond (ltb op 5) (known_targets op i x) []
 
-is_first : (n : ℕ) (l : List ℕ) → is_in n (n ∷ l) ≡ true
+is_first : (n : ℕ) (l : List ℕ) → among (n ∷ l) n ≡ true
 is_first n l = rw (eq-eqb n n refl)
-
-or_true : (b : Bool) → (b || true) ≡ true
-or_true true = refl
-or_true false = refl
 
 one_way : (i t f : ℕ) (b : Bool) → within i ((i + 1 + t) ∷ (i + 1 + f) ∷ []) (Skip (cond b t f)) ≡ true
 one_way i t f true = is_first (i + 1 + t) ((i + 1 + f) ∷ [])
-one_way i t f false = rw (is_first (i + 1 + f) []) (or_true (eqb (i + 1 + f) (i + 1 + t)))
+one_way i t f false = rw (is_first (i + 1 + f) []) (or-true (eqb (i + 1 + f) (i + 1 + t)))
 
 jump_within : (op i : ℕ) (x : Insn) (a v : ℕ) → within i (targets_by op i x) (jmp op x a v) ≡ true
 unfolding jmp
 jump_within zero i x a v = is_first (i + 1 + x.k) []
-jump_within (suc zero) i x a v = simp one_way
-jump_within (suc (suc zero)) i x a v = simp one_way
-jump_within (suc (suc (suc zero))) i x a v = simp one_way
-jump_within (suc (suc (suc (suc zero)))) i x a v = simp one_way
 jump_within (suc (suc (suc (suc (suc op))))) i x a v = refl
+jump_within op i x a v = simp one_way
 
 -- any instruction
 effect_within : (f m : List ℕ) (i : ℕ) (x : Insn) (a b : ℕ) → within i (targets i x) (effect f m x a b) ≡ true
@@ -54,11 +48,11 @@ effect_within f m i x a b = go (eqb (x.code % 8) 5) refl
     go true e = rw (jump_is f m x a b (eqb-true (x.code % 8) 5 e)) (jump_within (x.code / 16 % 16) i x a _)
     go false e = still i [] f m x a b (x.code % 8) refl (eqb-false (x.code % 8) 5 e)
 
-in_list : (n : ℕ) (l : List ℕ) → is_in n l ≡ true → Memᴰ n l
+in_list : (n : ℕ) (l : List ℕ) → among l n ≡ true → Memᴰ n l
 in_list n [] h = absurd (true≢false (sym h))
 in_list n (m ∷ l) h = go (eqb n m) refl h (λ k. in_list n l k)
   where
-    go : (b : Bool) → eqb n m ≡ b → (b || is_in n l) ≡ true → (is_in n l ≡ true → Memᴰ n l) → Memᴰ n (m ∷ l)
+    go : (b : Bool) → eqb n m ≡ b → (b || among l n) ≡ true → (among l n ≡ true → Memᴰ n l) → Memᴰ n (m ∷ l)
     go true e h later = Memᴰ.head (eqb-true n m e)
     go false e h later = Memᴰ.tail (later h)
 
