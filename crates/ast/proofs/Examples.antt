@@ -21,7 +21,7 @@ use Rattle.ast.specs.File.{header, count, nodes_at, grow, trees_of, Filter, pars
 
 -- ---- files
 
-two : ℕ → List ℕ
+abbrev two : ℕ → List ℕ
 two v = v / 256 ∷ v % 256 ∷ []
 
 -- n numbers from one on
@@ -30,15 +30,15 @@ span i zero = []
 span i (suc n) = i ∷ span (suc i) n
 
 -- a record: kind, direction, protocol, small number, A, B, and the first bytes of its address
-rec : ℕ → ℕ → ℕ → ℕ → ℕ → ℕ → List ℕ → List ℕ
+abbrev pub rec : ℕ → ℕ → ℕ → ℕ → ℕ → ℕ → List ℕ → List ℕ
 rec k d p n a b x = k ∷ d ∷ p ∷ n ∷ (two a ++ (two b ++ take 16 (x ++ replicate 16 0)))
 
-joined : List (List ℕ) → List ℕ
+abbrev joined : List (List ℕ) → List ℕ
 joined [] = []
 joined (r ∷ rs) = r ++ joined rs
 
 -- a file with this link byte and these records
-file : ℕ → List (List ℕ) → List ℕ
+abbrev pub file : ℕ → List (List ℕ) → List ℕ
 file l rs = 0x50 ∷ 0x46 ∷ 0x54 ∷ 0 ∷ 1 ∷ l ∷ (two (length rs) ++ joined rs)
 
 -- records that use no byte but the kind's; the record of a protocol; a file of one record
@@ -242,5 +242,5 @@ wanted : List Row → List Answer
 wanted rs = map (λ r. r.1) rs
 
 examples_hold : answers table ≡ wanted table
-unfolding table rows uses spoiled answers wanted seen two span rec joined file plain proto one ip leaf is parse header count nodes_at trees_of grow node_by good record_at be bytes_at segments_at
+unfolding table rows uses spoiled answers wanted seen span plain proto one ip leaf is parse header count nodes_at trees_of grow node_by good record_at be bytes_at segments_at
 examples_hold = refl

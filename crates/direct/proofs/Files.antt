@@ -2,26 +2,15 @@
 use Prim.Native.Nat.{ℕ, ◌+◌, ◌*◌, ◌-◌, ◌^◌}
 use mathlib.Core.List.{List, [], ◌∷◌, ◌++◌, map}
 use mathlib.Core.Bool.{Bool, true, ◌&&◌}
-use lib.ListN.{length, set, take, replicate}
+use lib.ListN.{set, take, replicate}
 use lib.Dec.{eqb, T}
 use Rattle.bpf.specs.Bytes.{be, segments_at, bytes_at}
 use Rattle.ast.specs.Record.{record_at, good, node_by}
 use Rattle.ast.specs.File.{header, count, nodes_at, grow, trees_of, parse}
+use Rattle.ast.proofs.Examples.{rec, file}
 use Rattle.direct.specs.Reading.{bytes_are, segments_agree, kind, ipv4, ipv6, reads_proto, transport, reads_primitive, reads}
 use Rattle.direct.specs.Direct.{direct, refusal_of, truth_of}
 use Rattle.direct.proofs.Frames.{out, eth, mac_a, mac_b, a4, b4, a6, b6, flip, ether, cooked, ip4, arp, proto4, proto6, hosts4, hosts6, tcp4, tcp6}
-
--- a record: kind, direction, protocol, small number, A, B, the address's first bytes
-abbrev rec : ℕ → ℕ → ℕ → ℕ → ℕ → ℕ → List ℕ → List ℕ
-rec k d p s a b address = k ∷ d ∷ p ∷ s ∷ (out 2 a ++ (out 2 b ++ take 16 (address ++ replicate 16 0)))
-
-abbrev joined : List (List ℕ) → List ℕ
-joined [] = []
-joined (r ∷ rs) = r ++ joined rs
-
--- a file of these records with this link byte
-abbrev file : ℕ → List (List ℕ) → List ℕ
-file link rs = 0x50 ∷ 0x46 ∷ 0x54 ∷ 0 ∷ 1 ∷ link ∷ (out 2 (length rs) ++ joined rs)
 
 -- some files are refused with a number, or a file is read on some frames: a binary numeral, a digit for each frame
 data Row : Type 0 where

@@ -7,13 +7,9 @@ use Rattle.bpf.specs.Bytes.{long_frame}
 use Rattle.ast.specs.File.{parse}
 use Rattle.direct.specs.Reading.{reads}
 
-abbrev pub answer : Out Bool → Out Bool
-answer (Err r) = Err r
-answer (Ok b) = Ok b
-
 -- refusals 1 to 4 of the file, then 10 of the frame; "True and false are the direct reading's, of the whole tree."
 unfoldable pub direct : List ℕ → List ℕ → Out Bool
-direct s f = answer (parse s >>= λ t. cond (long_frame f) (Err LongFrame) (Ok (reads t.link f t.tree)))
+direct s f = parse s >>= λ t. cond (long_frame f) (Err LongFrame) (Ok (reads t.link f t.tree))
 
 -- ---- the values of the answer
 
