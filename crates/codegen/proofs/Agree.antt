@@ -63,14 +63,11 @@ module _ (m : List ℕ) (k : ℕ → ℕ → ℕ → ℕ → List ℕ → Outcom
     line_agrees f (Plain (LdxMsh k)) a x = load_agrees (inside 1 k f) (SetX (4 * (be 1 k f % 16))) a x a (4 * (be 1 k f % 16)) refl
     line_agrees f (Plain (LdxImm k)) a x = h 0 t a k
     line_agrees f (Plain (AndK k)) a x = h 0 t (bit_and a k) x
-    line_agrees f (Branch Jeq k Jt p) a x = slot_agrees Jt (compare Jeq a k) p (test_code Jeq) k a x
     line_agrees f (Branch Jeq k Jf p) a x = slot_agrees Jf (compare Jeq a k) p (test_code Jeq) k a x
-    line_agrees f (Branch Jgt k Jt p) a x = slot_agrees Jt (compare Jgt a k) p (test_code Jgt) k a x
     line_agrees f (Branch Jgt k Jf p) a x = slot_agrees Jf (compare Jgt a k) p (test_code Jgt) k a x
-    line_agrees f (Branch Jge k Jt p) a x = slot_agrees Jt (compare Jge a k) p (test_code Jge) k a x
     line_agrees f (Branch Jge k Jf p) a x = slot_agrees Jf (compare Jge a k) p (test_code Jge) k a x
-    line_agrees f (Branch Jset k Jt p) a x = slot_agrees Jt (compare Jset a k) p (test_code Jset) k a x
     line_agrees f (Branch Jset k Jf p) a x = slot_agrees Jf (compare Jset a k) p (test_code Jset) k a x
+    line_agrees f (Branch t k s p) a x = slot_agrees s (compare t a k) p (test_code t) k a x
     line_agrees f (Jump p) a x = exit_agrees p a x
 
 pub exec_agrees : (f m : List ℕ) (q : List Insn) (b : Block) (n t a x : ℕ) → Agrees m (exec f q) (run f b n t a x) (exec f (map assemble b ++ q) n t a x m)

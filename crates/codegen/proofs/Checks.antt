@@ -2,15 +2,16 @@
 use Prim.Native.Nat.{ℕ, ◌+◌, ◌*◌, ◌-◌, ◌/◌, ◌^◌, ◌≤◌, ◌<◌}
 use mathlib.Core.Path.{◌≡◌, refl, sym, ap, ap₂, ◌∙◌}
 use mathlib.Core.List.{List, [], ◌∷◌, ◌++◌}
-use mathlib.Core.Bool.{Bool, true, false, cond, ◌&&◌, and-true}
+use mathlib.Core.Bool.{Bool, true, false, ◌&&◌, and-true, and_assoc}
 use native.Mathlib.Omega.{arith}
-use native.Mathlib.Nat.{add-zero, zero-add, div-one, div-eq_of_lt}
-use lib.ListN.{length, get_or}
+use native.Mathlib.Nat.{add_assoc, add-zero, div-one, div-eq_of_lt}
+use lib.ListN.{length}
 use lib.Dec.{eqb, leb}
 use lib.Bits.{bit_and}
 use borrow.Author.Tests.{eqb-true, leb-true, leb-false}
+use Rattle.error.proofs.All.{cases, either}
 use Rattle.bpf.specs.Bytes.{be, AreBytes}
-use Rattle.bpf.proofs.Bytes.{be_small}
+use Rattle.bpf.proofs.Bytes.{be_small, be_first}
 use Rattle.bpf.specs.Program.{Each}
 use Rattle.ast.specs.declared.Dir.{Dir}
 use Rattle.ast.specs.declared.Dir.TheVariants.{SrcOrDst, Src, Dst, SrcAndDst}
@@ -23,7 +24,7 @@ use Rattle.codegen.specs.declared.Test.TheVariants.{Jeq, Jgt, Jge}
 use Rattle.codegen.specs.declared.Line.TheVariants.{Plain}
 use Rattle.codegen.specs.Block.{bytes}
 use Rattle.codegen.specs.Block.{Block, writes_x}
-use Rattle.codegen.specs.Emit.{check, need, check_loads, check_blocks, check_ip6_addr, mask16, segment, check_net6, check_range, check_mac}
+use Rattle.codegen.specs.Emit.{check, check_loads, check_blocks, check_ip6_addr, mask16, segment, check_net6, check_range, check_mac}
 use Rattle.codegen.proofs.Semantics.{indexed}
 use Rattle.codegen.proofs.Laws.{With, OfX, Never, Maybe, Decides, seq, else, equal, allow, given, known, load, load_indexed, masked, needed, barred, winning, lastly, kept}
 use Rattle.codegen.proofs.Numbers.{not_lt, high_eqb, same_bytes, be_eqb}
@@ -104,13 +105,9 @@ addr_keeps at (s ∷ ss) = addr_keeps (at + 2) ss
 pub net_keeps : (p at : ℕ) (ss : List ℕ) → writes_x (check_net6 p at ss) ≡ false
 unfolding check_net6 writes_x
 net_keeps p at [] = refl
-net_keeps p at (s ∷ ss) = go (eqb p 0) (leb 16 p) (check_net6 (p - 16) (at + 2) ss) (net_keeps (p - 16) (at + 2) ss)
-  where
-    go : (z w : Bool) (k : Block) → writes_x k ≡ false
-        → writes_x (cond z [] (cond w (check W.Half at s) (Plain (LdAbs W.Half at) ∷ Plain (AndK (mask16 p)) ∷ need (bit_and s (mask16 p)) ∷ []) ++ k)) ≡ false
-    go true w k h = refl
-    go false true k h = h
-    go false false k h = h
+net_keeps p at (s ∷ ss) =
+    let k = net_keeps (p - 16) (at + 2) ss in
+    either (λ b. writes_x b ≡ false) (eqb p 0) refl (either (λ b. writes_x (b ++ check_net6 (p - 16) (at + 2) ss) ≡ false) (leb 16 p) k k)
 
 module _ (f : List ℕ) (bytes_of : AreBytes f) where
   half_small : (at : ℕ) → be 2 at f < 2 ^ 16
@@ -130,25 +127,19 @@ module _ (f : List ℕ) (bytes_of : AreBytes f) where
         seq (equal (sym (ap₂ eqb (whole p (be 2 at f) (omega arith)) (whole p s (omega arith)))) (checked W.Half at s)) (addr_decides (p - 16) (at + 2) ss (omega arith))
 
     segment_decides : (p at s : ℕ) → Half s → Decides f Never (OfX G) (segment p at s) (eqb (first p (be 2 at f)) (first p s)) (OfX G)
-    segment_decides p at s h = go (leb 16 p) refl
-      where
-        go : (t : Bool) → leb 16 p ≡ t
-            → Decides f Never (OfX G) (cond t (check W.Half at s) (Plain (LdAbs W.Half at) ∷ Plain (AndK (mask16 p)) ∷ need (bit_and s (mask16 p)) ∷ []))
-            (eqb (first p (be 2 at f)) (first p s)) (OfX G)
-        go true e = equal (sym (ap₂ eqb (whole p (be 2 at f) (leb-true 16 p e)) (whole p s (leb-true 16 p e)))) (checked W.Half at s)
-        go false e =
-            equal (part p (be 2 at f) s (leb-false 16 p e) (half_small at) h) (load W.Half at (masked (mask16 p) (lastly Jeq (bit_and s (mask16 p)))))
+    segment_decides p at s h =
+        cases (λ b. Decides f Never (OfX G) b (eqb (first p (be 2 at f)) (first p s)) (OfX G)) (leb 16 p)
+        (λ e. equal (sym (ap₂ eqb (whole p (be 2 at f) (leb-true 16 p e)) (whole p s (leb-true 16 p e)))) (checked W.Half at s))
+        (λ e. equal (part p (be 2 at f) s (leb-false 16 p e) (half_small at) h) (load W.Half at (masked (mask16 p) (lastly Jeq (bit_and s (mask16 p))))))
 
     pub net_decides : (p at : ℕ) (ss : List ℕ) → Each Half ss → Decides f Never (OfX G) (check_net6 p at ss) (segments_agree f p at ss) (OfX G)
     unfolding check_net6 segments_agree
     net_decides p at [] h = known (λ a x g. (refl, g))
-    net_decides p at (s ∷ ss) h = go (eqb p 0) refl (segment_decides p at s h.0) (net_decides (p - 16) (at + 2) ss h.1)
-      where
-        go : (t : Bool) → eqb p 0 ≡ t → Decides f Never (OfX G) (segment p at s) (eqb (first p (be 2 at f)) (first p s)) (OfX G)
-            → Decides f Never (OfX G) (check_net6 (p - 16) (at + 2) ss) (segments_agree f (p - 16) (at + 2) ss) (OfX G)
-            → Decides f Never (OfX G) (cond t [] (segment p at s ++ check_net6 (p - 16) (at + 2) ss)) (segments_agree f p at (s ∷ ss)) (OfX G)
-        go true e j k = known (λ a x g. (agree_none p at (s ∷ ss) (eqb-true p 0 e) h, g))
-        go false e j k = seq j k
+    net_decides p at (s ∷ ss) h =
+        let j = segment_decides p at s h.0 in
+        let k = net_decides (p - 16) (at + 2) ss h.1 in
+        cases (λ b. Decides f Never (OfX G) b (segments_agree f p at (s ∷ ss)) (OfX G)) (eqb p 0)
+        (λ e. known (λ a x g. (agree_none p at (s ∷ ss) (eqb-true p 0 e) h, g))) (λ e. seq j k)
 
 -- ---- ether addresses: four bytes and two are six
 
@@ -156,38 +147,11 @@ pub mac_keeps : (a : List ℕ) (at : ℕ) → writes_x (check_mac a at) ≡ fals
 unfolding check_mac writes_x
 mac_keeps a at = refl
 
-six : (a b c d e g : Bool) → (((((true && a) && b) && c) && d) && ((true && e) && g)) ≡ (a && (b && (c && (d && (e && (g && true))))))
-six false b c d e g = refl
-six true false c d e g = refl
-six true true false d e g = refl
-six true true true false e g = refl
-six true true true true false g = refl
-six true true true true true g = sym (and-true g)
-
 module _ (f : List ℕ) (bytes_of : AreBytes f) where
-  one_byte : (at x v : ℕ) → at ≡ x → eqb (get_or f x 0) v ≡ eqb (be 1 at f) v
-  unfolding be
-  one_byte at x v e = ap (λ n. eqb n v) (ap (λ y. get_or f y 0) (sym e ∙ sym (add-zero at)) ∙ sym (zero-add _))
-
   mac_agrees : (at : ℕ) (a : List ℕ) → length a ≡ 6 → (same_bytes 4 at f 0 a && same_bytes 2 (at + 4) f 4 a) ≡ bytes_are f at a
   unfolding bytes_are
-  mac_agrees at [] e = absurd (omega arith)
-  mac_agrees at (_ ∷ []) e = absurd (omega arith)
-  mac_agrees at (_ ∷ _ ∷ []) e = absurd (omega arith)
-  mac_agrees at (_ ∷ _ ∷ _ ∷ []) e = absurd (omega arith)
-  mac_agrees at (_ ∷ _ ∷ _ ∷ _ ∷ []) e = absurd (omega arith)
-  mac_agrees at (_ ∷ _ ∷ _ ∷ _ ∷ _ ∷ []) e = absurd (omega arith)
-  mac_agrees at (a ∷ b ∷ c ∷ d ∷ u ∷ v ∷ []) e =
-      rw (
-        one_byte at (at + 0) a (omega arith),
-        one_byte (at + 1) (at + 1) b refl,
-        one_byte (at + 1 + 1) (at + 2) c (omega arith),
-        one_byte (at + 1 + 1 + 1) (at + 3) d (omega arith),
-        one_byte (at + 1 + 1 + 1 + 1) (at + 4 + 0) u (omega arith),
-        one_byte (at + 1 + 1 + 1 + 1 + 1) (at + 4 + 1) v (omega arith),
-      )
-      (six (eqb (be 1 at f) a) (eqb (be 1 (at + 1) f) b) (eqb (be 1 (at + 1 + 1) f) c) (eqb (be 1 (at + 1 + 1 + 1) f) d) (eqb (be 1 (at + 1 + 1 + 1 + 1) f) u) (eqb (be 1 (at + 1 + 1 + 1 + 1 + 1) f) v))
-  mac_agrees at (_ ∷ _ ∷ _ ∷ _ ∷ _ ∷ _ ∷ _ ∷ _) e = absurd (omega arith)
+  mac_agrees at (a ∷ b ∷ c ∷ d ∷ u ∷ v ∷ []) e = simp (be_first, add_assoc, add-zero, and_assoc, and-true)
+  mac_agrees at a e = absurd (omega arith)
 
   pub mac_decides : {G : ℕ → Type 0} (a : List ℕ) (at : ℕ) → length a ≡ 6 → Each Byte a → Decides f Never (OfX G) (check_mac a at) (bytes_are f at a) (OfX G)
   unfolding check_mac

@@ -1,15 +1,15 @@
 -- Every condition: what the generator emits for it decides what the direct reading says of it.
-use Rattle.std.specs.Prelude.{Option, None, Some}
-use Prim.Native.Nat.{ℕ, ◌+◌, ◌*◌, ◌%◌, ◌^◌, ◌≤◌}
+use Rattle.std.specs.Prelude.{Option, None, Some, IfSome}
+use Prim.Native.Nat.{ℕ, ◌+◌, ◌*◌, ◌%◌, ◌≤◌}
 use mathlib.Core.Path.{◌≡◌, refl, sym, ap, ◌∙◌}
 use mathlib.Core.List.{List}
 use mathlib.Core.Bool.{Bool, true, false, cond, ◌&&◌, ◌||◌, and-true, and_comm, and_assoc, or_comm, or-false}
 use native.Mathlib.Omega.{arith}
 use native.Mathlib.Nat.{mod-lt}
-use lib.Dec.{eqb, leb, lit<, lit≤}
+use lib.Dec.{eqb, leb, lit<}
 use lib.Bits.{bit_and}
 use Rattle.error.specs.Answer.{Out}
-use Rattle.error.proofs.All.{All, all_bind, all_cond, all_map}
+use Rattle.error.proofs.All.{either, All, all_bind, all_cond, all_map}
 use Rattle.bpf.specs.Bytes.{be, AreBytes}
 use Rattle.bpf.proofs.Bytes.{be_small}
 use Rattle.ast.specs.declared.LinkType.{LinkType}
@@ -33,27 +33,24 @@ use Rattle.codegen.specs.Emit.{net_offset, ether_proto_offset, Code, ethertype_a
 use Rattle.codegen.proofs.Semantics.{indexed}
 use Rattle.codegen.proofs.Laws.{OfX, Never, Maybe, Decides, seq, equal, allow, learning, also, known, load, masked, lastly}
 use Rattle.codegen.proofs.Numbers.{low_one, top_bits}
-use Rattle.codegen.proofs.KnownLaws.{Says, says_holds}
+use Rattle.codegen.proofs.KnownLaws.{says_holds}
 use Rattle.codegen.proofs.FactsHold.{Passes, Raw, raw_fill, first_part, has_ports, header_length, Holds, holds_ethertype, holds_ip4, holds_ip6}
 use Rattle.codegen.proofs.Checks.{fetched, fetched_masked, fetched_indexed, checked, two_loads, two_blocks, range_decides, range_keeps, addr_keeps, net_keeps, addr_decides, net_decides, mac_keeps, mac_decides}
 use Rattle.codegen.proofs.Prologue.{kind_at, Ported, prereqs_ready, prereqs_ethertype, kind_other}
 
 -- the generator's places are those of the direct reading
 pub start : (L : LinkType) → network_start L ≡ net_offset L
-start Ethernet = refl
 start RawIp = refl
-start LinuxSll = refl
+start L = refl
 
-start_small : (L : LinkType) → net_offset L ≤ 16
-start_small Ethernet = lit≤ tt
-start_small RawIp = lit≤ tt
-start_small LinuxSll = lit≤ tt
+pub start_small : (L : LinkType) → net_offset L ≤ 16
+start_small RawIp = omega arith
+start_small L = omega arith
 
 kind_none : (L : LinkType) (f : List ℕ) (v : ℕ) → ether_proto_offset L ≡ None → eqb v 0x0800 ≡ kind L f v
 unfolding kind
-kind_none Ethernet f v e = let z : ◌≡◌ {A = ℕ} 0 1 = cc in absurd (omega arith)
 kind_none RawIp f v e = refl
-kind_none LinuxSll f v e = let z : ◌≡◌ {A = ℕ} 0 1 = cc in absurd (omega arith)
+kind_none L f v e = cc
 
 -- a test of the destination and then of the source
 sides_turned : (d : Dir) (s t : Bool) → sides (turned d) t s ≡ sides d s t
@@ -74,15 +71,7 @@ set_same None = λ q. refl
 set_same (Some Tcp) = λ q. refl
 set_same (Some Udp) = λ q. refl
 set_same (Some Sctp) = λ q. refl
-set_same (Some Ip) = tt
-set_same (Some Ip6) = tt
-set_same (Some Arp) = tt
-set_same (Some Rarp) = tt
-set_same (Some Icmp) = tt
-set_same (Some Icmp6) = tt
-set_same (Some Igmp) = tt
-set_same (Some (Num n)) = tt
-set_same (Some (Ip6Proto n)) = tt
+set_same p = tt
 
 -- a version's conditions and its test, gathered
 gather : (k4 k6 s4 z s6 t4 t6 : Bool) → (k4 ≡ true → k6 ≡ false)
@@ -124,7 +113,7 @@ module _ (L : LinkType) (f : List ℕ) where
       (λ c k. record { decides = seq k.decides (h (Holds L f c.facts)); raw = k.raw })
 
   l4_emits : (v at : ℕ) (get : Facts → Option ℕ) (learn : Facts → ℕ → Facts) (p : ℕ) (g : Facts) → Raw L g.ethertype
-      → ((g : Facts) (x : ℕ) → Holds L f g x → Says (get g) (Passes (eqb (be 1 at f))))
+      → ((g : Facts) (x : ℕ) → Holds L f g x → IfSome (get g) (Passes (eqb (be 1 at f))))
       → ((g : Facts) (p x : ℕ) → Holds L f g x → eqb (be 1 at f) p ≡ true → Holds L f (learn g p) x)
       → ((g : Facts) (p : ℕ) → (learn g p).ethertype ≡ g.ethertype)
       → All (Emits Never g (kind L f v && eqb (be 1 at f) p)) (emit_l4 L v at get learn p g)
@@ -164,17 +153,10 @@ module _ (L : LinkType) (f : List ℕ) where
 
   length_small : header_length L f ≤ 60
   unfolding header_length
-  length_small = go (kind L f 0x0800)
-    where
-      go : (b : Bool) → cond b (4 * (be 1 (net_offset L) f % 16)) 40 ≤ 60
-      go true = omega (arith, mod-lt (be 1 (net_offset L) f) (lit< {m = 0} {n = 16} tt))
-      go false = lit≤ tt
+  length_small = either (λ (n : ℕ). n ≤ 60) (kind L f 0x0800) (omega (arith, mod-lt (be 1 (net_offset L) f) (lit< {m = 0} {n = 16} tt))) (omega arith)
 
   at_port : (k x y : ℕ) → k ≤ 18 → y ≡ header_length L f + k → x ≡ header_length L f → indexed x k ≡ y
-  at_port k x y s p e = rw (e, p) (go (header_length L f) length_small)
-    where
-      go : (h : ℕ) → h ≤ 60 → (h + k) % 2 ^ 32 ≡ h + k
-      go h b = omega arith
+  at_port k x y s p e = let h = length_small in omega arith
 
   pub transport_is : (set : ℕ → Bool) (want : L4Set) (ask : ℕ → Bool) → ((q : ℕ) → set q ≡ contains want q)
       → transport L f set ask ≡ (has_ports L f want && ask (header_length L f))
@@ -215,10 +197,8 @@ module _ (L : LinkType) (f : List ℕ) where
 
   sender_decides : AreBytes f → (d : Dir) (a : List ℕ) → ProperPrimitive (EtherHost d a) → (G : ℕ → Type 0)
       → All (λ k. Decides f Maybe (OfX G) k (sides d (from_station LinuxSll f a) (to_station LinuxSll f a)) (OfX G)) (sender d (check_mac a 6))
-  sender_decides z SrcOrDst a h G = tt
   sender_decides z Src a h G = allow (seq (checked Half 4 6) (mac_decides f z a 6 h.0 h.1))
-  sender_decides z Dst a h G = tt
-  sender_decides z SrcAndDst a h G = tt
+  sender_decides z d a h G = tt
 
   pub condition_emits : AreBytes f → (p : Primitive) → ProperPrimitive p → (g : Facts) → Raw L g.ethertype
       → All (Emits Maybe g (reads_primitive L f p)) (emit_primitive L p g)

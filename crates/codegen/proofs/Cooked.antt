@@ -2,34 +2,33 @@
 use Rattle.std.specs.Prelude.{Option, None, Some}
 use Rattle.std.specs.Prelude.{Ok, Err}
 use Prim.Native.Nat.{ℕ, ◌%◌}
-use mathlib.Core.Path.{◌≡◌, refl, sym, ap, ◌∙◌}
-use mathlib.Core.List.{List, []}
-use mathlib.Core.Bool.{Bool, true, false, ◌||◌}
+use mathlib.Core.Path.{◌≡◌, refl, ap}
+use mathlib.Core.List.{List}
+use mathlib.Core.Bool.{Bool, false, ◌||◌}
 use mathlib.Core.Logic.{◌⊎◌, inl, inr}
-use native.Mathlib.Omega.{arith}
 use lib.Dec.{eqb}
 use Rattle.error.specs.declared.Refusal.{Refusal}
 use Rattle.error.specs.declared.Refusal.TheVariants.{FarJump, CookedAddress}
 use Rattle.error.specs.Answer.{Out, ◌>>=◌}
-use Rattle.error.proofs.All.{Turned, turned_bind, turned_cond}
+use Rattle.std.proofs.lemmas.Bool.{or_parts}
+use Rattle.error.proofs.All.{Turned, turned_cond}
 use Rattle.bpf.specs.Bytes.{be}
 use Rattle.ast.specs.declared.LinkType.{LinkType}
 use Rattle.ast.specs.declared.LinkType.TheVariants.{Ethernet, RawIp, LinuxSll}
 use Rattle.ast.specs.declared.Dir.{Dir}
-use Rattle.ast.specs.declared.Dir.TheVariants.{SrcOrDst, Src, Dst, SrcAndDst}
+use Rattle.ast.specs.declared.Dir.TheVariants.{Src, SrcAndDst}
 use Rattle.ast.specs.declared.Primitive.{Primitive}
-use Rattle.ast.specs.declared.Primitive.TheVariants.{Protocol, Host4, Host6, Net, Net6, Port, PortRange, EtherHost, EtherProto, EtherMulticast, IpBroadcast, IpMulticast, Ip6Multicast, IpProtoChain, Ip6ProtoChain}
+use Rattle.ast.specs.declared.Primitive.TheVariants.{Protocol, Port, PortRange, EtherHost, EtherProto, EtherMulticast, IpProtoChain, Ip6ProtoChain}
 use Rattle.ast.specs.Tree.{Expr, Leaf, And, Or, Not}
 use Rattle.direct.specs.Reading.{sides, bytes_are, reads_primitive}
-use Rattle.codegen.specs.declared.L4Set.{L4Set}
 use Rattle.codegen.specs.declared.Facts.{Facts}
-use Rattle.codegen.specs.declared.GuardSet.{GuardSet}
 use Rattle.codegen.specs.Facts.{holds, intersect}
 use Rattle.codegen.specs.Protocols.{row_of, small_of, known, l4set_for}
 use Rattle.codegen.specs.Guards.{required_guards}
 use Rattle.codegen.specs.Block.{Block, far, resolved}
-use Rattle.codegen.specs.Emit.{check_blocks, check_mac, Code, code, restored_after, emit_ethertype, guarded, emit_l4, emit_row, ported, ether, emit_primitive, hoist_known, hoist_ports, or_hoist, emit}
+use Rattle.codegen.specs.Emit.{check_blocks, check_mac, Code, restored_after, emit_ethertype, ported, ether, emit_primitive, or_hoist, emit}
 use Rattle.codegen.specs.Compile.{entry_facts, compile}
+use Rattle.codegen.proofs.Refusals.{guarded_turned, l4_turned, row_turned, hoist_turned}
 use Rattle.codegen.specs.Cooked.{of_address, refusal_in, turns_down, or_else, first_down, of_ether, holds_ether, primitive_before, walk, walked, Cooked}
 
 -- ---- what an answer meets: a number, or 8; where there is none, 8 alone
@@ -78,65 +77,26 @@ resolved_met b = turned_cond IsFar (far b) _ _ refl tt
 
 -- ---- conditions on LinuxSll
 
-module _ (q : Refusal → Type 0) where
-  kind_never : (v : ℕ) (g : Facts) → Turned q (emit_ethertype LinuxSll v g)
-  unfolding emit_ethertype
-  kind_never v g = turned_cond q (holds g.ethertype v) _ _ tt tt
-
-  guarded_never : (v : ℕ) (b : Block) (g : Facts) → Turned q (guarded LinuxSll v b g)
-  unfolding guarded
-  guarded_never v b g = turned_bind q (emit_ethertype LinuxSll v g) _ (kind_never v g) (λ c. tt)
-
-  l4_never : (v at : ℕ) (get : Facts → Option ℕ) (learn : Facts → ℕ → Facts) (p : ℕ) (g : Facts) → Turned q (emit_l4 LinuxSll v at get learn p g)
-  unfolding emit_l4
-  l4_never v at get learn p g =
-      turned_bind q (emit_ethertype LinuxSll v g) _ (kind_never v g) (λ c. turned_cond q (holds (get c.facts) p) _ _ tt tt)
-
-  row_never : (v : ℕ) (p n : Option ℕ) (g : Facts) → Turned q (emit_row LinuxSll v p n g)
-  row_never v None None g = kind_never v g
-  row_never v None (Some n) g = l4_never _ _ _ _ n g
-  row_never v (Some p) n g = l4_never _ _ _ _ p g
-
-  known_never : (k : Option ℕ) (emit : ℕ → Facts → Out Code) → ((v : ℕ) (g : Facts) → Turned q (emit v g)) → (c : Code) → Turned q (hoist_known LinuxSll k emit c)
-  known_never None emit h c = tt
-  known_never (Some v) emit h c = turned_bind q (emit v c.facts) _ (h v c.facts) (λ d. tt)
-
-  ports_never : (s : Option L4Set) (c : Code) → Turned q (hoist_ports LinuxSll s c)
-  ports_never None c = tt
-  ports_never (Some want) c = tt
-
-  hoist_never : (r : GuardSet) (g : Facts) → Turned q (or_hoist LinuxSll r g)
-  unfolding or_hoist
-  hoist_never r g =
-      turned_bind q (hoist_known LinuxSll r.ethertype (emit_ethertype LinuxSll) (code [] g)) _ (known_never r.ethertype _ kind_never (code [] g))
-      (λ a. turned_bind q (hoist_known LinuxSll r.ip4_proto _ a) _ (known_never r.ip4_proto _ (l4_never _ _ _ _) a)
-      (λ b. turned_bind q (hoist_known LinuxSll r.ip6_nh _ b) _ (known_never r.ip6_nh _ (l4_never _ _ _ _) b)
-      (λ c. ports_never r.port_prereqs c)))
+kind_never : (v : ℕ) (g : Facts) → Turned IsFar (emit_ethertype LinuxSll v g)
+unfolding emit_ethertype
+kind_never v g = turned_cond IsFar (holds g.ethertype v) _ _ tt tt
 
 host_met : (d : Dir) (a : List ℕ) (g : Facts) → Meets (of_address d) (emit_primitive LinuxSll (EtherHost d a) g)
 unfolding emit_primitive ether Meets
-host_met SrcOrDst a g = inl refl
 host_met Src a g = tt
-host_met Dst a g = inl refl
-host_met SrcAndDst a g = inl refl
+host_met d a g = inl refl
 
 condition_met : (p : Primitive) (g : Facts) → Meets (turns_down p) (emit_primitive LinuxSll p g)
 unfolding emit_primitive ether ported Meets
-condition_met (Protocol p) g = let r = row_of p in row_never IsFar r.ethertype (known r.ip4_proto (small_of p)) (known r.ip6_nh (small_of p)) g
-condition_met (Host4 d a) g = guarded_never IsFar _ _ g
-condition_met (Host6 d a) g = guarded_never IsFar _ _ g
-condition_met (Net d a m) g = guarded_never IsFar _ _ g
-condition_met (Net6 d p a) g = guarded_never IsFar _ _ g
+condition_met (Protocol p) g = let r = row_of p in row_turned IsFar LinuxSll kind_never r.ethertype (known r.ip4_proto (small_of p)) (known r.ip6_nh (small_of p)) g
 condition_met (Port d p k) g = met_own (l4set_for p) _
 condition_met (PortRange d p lo hi) g = met_own (l4set_for p) _
 condition_met (EtherHost d a) g = host_met d a g
-condition_met (EtherProto v) g = kind_never IsFar v g
+condition_met (EtherProto v) g = kind_never v g
 condition_met EtherMulticast g = inl refl
-condition_met IpBroadcast g = guarded_never IsFar _ _ g
-condition_met IpMulticast g = guarded_never IsFar _ _ g
-condition_met Ip6Multicast g = guarded_never IsFar _ _ g
-condition_met (IpProtoChain p) g = l4_never IsFar _ _ _ _ p g
-condition_met (Ip6ProtoChain p) g = l4_never IsFar _ _ _ _ p g
+condition_met (IpProtoChain p) g = l4_turned IsFar LinuxSll kind_never _ _ _ _ p g
+condition_met (Ip6ProtoChain p) g = l4_turned IsFar LinuxSll kind_never _ _ _ _ p g
+condition_met p g = guarded_turned IsFar LinuxSll kind_never _ _ g
 
 -- ---- trees on LinuxSll
 
@@ -147,7 +107,7 @@ tree_met (And l r) g =
     met_bind (first_down l) (first_down r) (emit LinuxSll l g) _ (tree_met l g)
     (λ b. met_bind None (first_down r) (resolved _) _ (resolved_met _) (λ b'. met_last (first_down r) (emit LinuxSll r _) _ (tree_met r _)))
 tree_met (Or l r) g =
-    met_bind None (or_else (first_down l) (first_down r)) (or_hoist LinuxSll (intersect (required_guards l) (required_guards r)) g) _ (unfold Meets in hoist_never IsFar _ g)
+    met_bind None (or_else (first_down l) (first_down r)) (or_hoist LinuxSll (intersect (required_guards l) (required_guards r)) g) _ (unfold Meets in hoist_turned IsFar LinuxSll kind_never _ g)
     (λ h. met_bind (first_down l) (first_down r) (emit LinuxSll l h.facts) _ (tree_met l _)
     (λ b. met_bind None (first_down r) (resolved _) _ (resolved_met _) (λ b'. met_last (first_down r) (emit LinuxSll r _) _ (tree_met r _))))
 tree_met (Not t) g = met_after (first_down t) (emit LinuxSll t g) _ (tree_met t g) (λ b. met_last None (resolved _) _ (resolved_met _))
@@ -164,22 +124,14 @@ first_down_lem (Ok a) r h = absurd h
 
 free_far : {A : Type 0} (o : Out A) (r : Refusal) → Meets None o → o ≡ Err r → r ≡ FarJump
 unfolding Meets IsFar
-free_far (Err x) r h e = let z : x ≡ r = cc in sym z ∙ h
-free_far (Ok a) r h e = let z : ◌≡◌ {A = ℕ} 0 1 = cc in absurd (omega arith)
+free_far (Err x) r h e = cc
+free_far (Ok a) r h e = cc
 
 -- ---- trees that are as before
 
 bind_same : {A B : Type 0} (o : Out A) {j k : A → Out B} → ((a : A) → j a ≡ k a) → (o >>= j) ≡ (o >>= k)
 bind_same (Err r) h = refl
 bind_same (Ok a) h = h a
-
-or_left : (a b : Bool) → (a || b) ≡ false → a ≡ false
-or_left true b e = e
-or_left false b e = refl
-
-or_right : (a b : Bool) → (a || b) ≡ false → b ≡ false
-or_right true b e = let z : ◌≡◌ {A = ℕ} 0 1 = cc in absurd (omega arith)
-or_right false b e = e
 
 module _ (L : LinkType) where
   -- another link, or no kind 17 or 19
@@ -189,53 +141,32 @@ module _ (L : LinkType) where
   other_left : (a b : Bool) → Other (a || b) → Other a
   unfolding Other
   other_left a b (inl n) = inl n
-  other_left a b (inr e) = inr (or_left a b e)
+  other_left a b (inr e) = inr (or_parts a b e).0
 
   other_right : (a b : Bool) → Other (a || b) → Other b
   unfolding Other
   other_right a b (inl n) = inl n
-  other_right a b (inr e) = inr (or_right a b e)
+  other_right a b (inr e) = inr (or_parts a b e).1
 
 host_before : (L : LinkType) (d : Dir) (a : List ℕ) (g : Facts) → ¬ (L ≡ LinuxSll) → emit_primitive L (EtherHost d a) g ≡ primitive_before L (EtherHost d a) g
 unfolding emit_primitive ether primitive_before check_blocks
-host_before Ethernet SrcOrDst a g n = refl
-host_before Ethernet Src a g n = refl
-host_before Ethernet Dst a g n = refl
-host_before Ethernet SrcAndDst a g n = refl
-host_before RawIp SrcOrDst a g n = refl
-host_before RawIp Src a g n = refl
-host_before RawIp Dst a g n = refl
-host_before RawIp SrcAndDst a g n = refl
 host_before LinuxSll d a g n = absurd (n refl)
+host_before Ethernet SrcAndDst a g n = refl
+host_before RawIp SrcAndDst a g n = refl
+host_before L d a g n = refl
 
 multicast_before : (L : LinkType) (g : Facts) → ¬ (L ≡ LinuxSll) → emit_primitive L EtherMulticast g ≡ primitive_before L EtherMulticast g
 unfolding emit_primitive ether primitive_before
-multicast_before Ethernet g n = refl
-multicast_before RawIp g n = refl
 multicast_before LinuxSll g n = absurd (n refl)
-
-never : {A : Type 0} → true ≡ false → A
-never e = let z : ◌≡◌ {A = ℕ} 0 1 = cc in absurd (omega arith)
+multicast_before L g n = refl
 
 condition_before : (L : LinkType) (p : Primitive) (g : Facts) → Other L (of_ether p) → emit_primitive L p g ≡ primitive_before L p g
 unfolding primitive_before Other
-condition_before L (Protocol p) g o = refl
-condition_before L (Host4 d a) g o = refl
-condition_before L (Host6 d a) g o = refl
-condition_before L (Net d a m) g o = refl
-condition_before L (Net6 d p a) g o = refl
-condition_before L (Port d p k) g o = refl
-condition_before L (PortRange d p lo hi) g o = refl
 condition_before L (EtherHost d a) g (inl n) = host_before L d a g n
-condition_before L (EtherHost d a) g (inr e) = never e
-condition_before L (EtherProto v) g o = refl
+condition_before L (EtherHost d a) g (inr e) = cc
 condition_before L EtherMulticast g (inl n) = multicast_before L g n
-condition_before L EtherMulticast g (inr e) = never e
-condition_before L IpBroadcast g o = refl
-condition_before L IpMulticast g o = refl
-condition_before L Ip6Multicast g o = refl
-condition_before L (IpProtoChain p) g o = refl
-condition_before L (Ip6ProtoChain p) g o = refl
+condition_before L EtherMulticast g (inr e) = cc
+condition_before L p g o = refl
 
 -- with other leaves that are the same on trees of which q holds, the walk is the same
 module _ (L : LinkType) (q : Bool → Type 0) (left : (a b : Bool) → q (a || b) → q a) (right : (a b : Bool) → q (a || b) → q b)
@@ -260,24 +191,20 @@ module _ (L : LinkType) (q : Bool → Type 0) (left : (a b : Bool) → q (a || b
 
 host_reads : (L : LinkType) (f : List ℕ) (d : Dir) (a : List ℕ) → ¬ (L ≡ LinuxSll) → reads_primitive L f (EtherHost d a) ≡ sides d (bytes_are f 6 a) (bytes_are f 0 a)
 unfolding reads_primitive
-host_reads Ethernet f d a n = refl
-host_reads RawIp f d a n = refl
 host_reads LinuxSll f d a n = absurd (n refl)
+host_reads L f d a n = refl
 
 many_reads : (L : LinkType) (f : List ℕ) → ¬ (L ≡ LinuxSll) → reads_primitive L f EtherMulticast ≡ eqb (be 1 0 f % 2) 1
 unfolding reads_primitive
-many_reads Ethernet f n = refl
-many_reads RawIp f n = refl
 many_reads LinuxSll f n = absurd (n refl)
+many_reads L f n = refl
 
 -- ---- the page
 
 other_directions : (d : Dir) (a : List ℕ) (g : Facts) → ¬ (d ≡ Src) → emit_primitive LinuxSll (EtherHost d a) g ≡ Err CookedAddress
 unfolding emit_primitive ether
-other_directions SrcOrDst a g n = refl
 other_directions Src a g n = absurd (n refl)
-other_directions Dst a g n = refl
-other_directions SrcAndDst a g n = refl
+other_directions d a g n = refl
 
 pub cooked : Cooked
 unfolding Other

@@ -1,10 +1,11 @@
 -- The whole tree: its code decides its direct reading.
-use Rattle.std.specs.Prelude.{Option, None, Some}
+use Rattle.std.specs.Prelude.{Option, None, Some, IfSome}
 use Rattle.std.specs.Prelude.{Ok, Err}
 use Prim.Native.Nat.{ℕ}
 use mathlib.Core.Path.{◌≡◌, refl, sym, ◌∙◌}
 use mathlib.Core.List.{List, []}
 use mathlib.Core.Bool.{Bool, true, false, cond, ◌&&◌, ◌||◌, and-true}
+use Rattle.std.proofs.lemmas.Bool.{and_parts, and_from}
 use Rattle.error.specs.Answer.{Out, ◌>>=◌}
 use Rattle.error.proofs.All.{cases, either, All, all_bind}
 use Rattle.bpf.specs.Bytes.{AreBytes}
@@ -26,8 +27,8 @@ use Rattle.codegen.specs.declared.Side.TheVariants.{Success}
 use Rattle.codegen.specs.Block.{Block, settle, turn, otherwise, resolved, far, writes_x}
 use Rattle.codegen.specs.Emit.{is_raw, Code, code, emit_ethertype, emit_ip4_l4, emit_ip6_l4, hoist_known, hoist_ports, or_hoist, emit, restored_after}
 use Rattle.codegen.proofs.Laws.{Never, Maybe, seq, settled, else, negated, equal, allow, learning, known, kept}
-use Rattle.codegen.proofs.KnownLaws.{Says, SaysPorts, says_ready, GuardsSay, union_says, intersect_left, intersect_right}
-use Rattle.codegen.proofs.FactsHold.{and_left, and_right, and_both, or_cases, Passes, Raw, raw_both, has_ports, header_length, Holds, holds_meet_left, holds_meet_right, holds_restored}
+use Rattle.codegen.proofs.KnownLaws.{GuardsSay, union_says, intersect_left, intersect_right}
+use Rattle.codegen.proofs.FactsHold.{or_cases, Passes, Raw, raw_both, has_ports, header_length, Holds, holds_meet_left, holds_meet_right, holds_restored}
 use Rattle.codegen.proofs.Prologue.{prereqs_ready, prereqs_ethertype}
 use Rattle.codegen.proofs.Conditions.{set_same, transport_is, Emits, ethertype_emits, ip4_emits, ip6_emits, condition_emits}
 
@@ -50,15 +51,15 @@ module _ (L : LinkType) (f : List ℕ) where
   meets_none = record { ethertype = tt; ip4 = tt; ip6 = tt; ports = tt }
 
   meets_kind : (v : ℕ) (q : Bool) → (kind L f v && q) ≡ true → Meets (guards v None None)
-  meets_kind v q e = record { ethertype = and_left (kind L f v) q e; ip4 = tt; ip6 = tt; ports = tt }
+  meets_kind v q e = record { ethertype = (and_parts (kind L f v) q e).0; ip4 = tt; ip6 = tt; ports = tt }
 
   ipv4_kind : (p : ℕ) → ipv4 L f p ≡ true → kind L f 0x0800 ≡ true
   unfolding ipv4
-  ipv4_kind p e = and_left (kind L f 0x0800) _ e
+  ipv4_kind p e = (and_parts (kind L f 0x0800) _ e).0
 
   ipv6_kind : (p : ℕ) → ipv6 L f p ≡ true → kind L f 0x86dd ≡ true
   unfolding ipv6
-  ipv6_kind p e = and_left (kind L f 0x86dd) _ e
+  ipv6_kind p e = (and_parts (kind L f 0x86dd) _ e).0
 
   meets_ip4 : (p : ℕ) → ipv4 L f p ≡ true → Meets (guards 0x0800 (Some p) None)
   meets_ip4 p e = record { ethertype = ipv4_kind p e; ip4 = e; ip6 = tt; ports = tt }
@@ -69,12 +70,12 @@ module _ (L : LinkType) (f : List ℕ) where
   meets_only : (v : ℕ) → kind L f v ≡ true → Meets (guards v None None)
   meets_only v e = record { ethertype = e; ip4 = tt; ip6 = tt; ports = tt }
 
-  transport_ports : (p : Option Proto) (ask : ℕ → Bool) → transport L f (port_set p) ask ≡ true → SaysPorts (set_of (l4set_for p)) (Passes (has_ports L f))
+  transport_ports : (p : Option Proto) (ask : ℕ → Bool) → transport L f (port_set p) ask ≡ true → IfSome (set_of (l4set_for p)) (Passes (has_ports L f))
   transport_ports p ask e = go (l4set_for p) (set_same p)
     where
-      go : (o : Out L4Set) → All (λ want. (q : ℕ) → port_set p q ≡ contains want q) o → SaysPorts (set_of o) (Passes (has_ports L f))
+      go : (o : Out L4Set) → All (λ want. (q : ℕ) → port_set p q ≡ contains want q) o → IfSome (set_of o) (Passes (has_ports L f))
       go (Err r) h = tt
-      go (Ok want) h = says_ready want (Passes (has_ports L f)) (and_left (has_ports L f want) (ask (header_length L f)) (sym (transport_is L f (port_set p) want ask h) ∙ e))
+      go (Ok want) h = (and_parts (has_ports L f want) (ask (header_length L f)) (sym (transport_is L f (port_set p) want ask h) ∙ e)).0
 
   proto_meets : (p : Proto) → reads_proto L f p ≡ true → Meets (primitive_guards (Protocol p))
   unfolding primitive_guards reads_proto
@@ -113,7 +114,7 @@ module _ (L : LinkType) (f : List ℕ) where
   unfolding required_guards reads
   tree_meets (Leaf p) e = condition_meets p e
   tree_meets (And l r) e =
-      union_says (required_guards l) (required_guards r) (tree_meets l (and_left (reads L f l) (reads L f r) e)) (tree_meets r (and_right (reads L f l) (reads L f r) e))
+      union_says (required_guards l) (required_guards r) (tree_meets l (and_parts (reads L f l) (reads L f r) e).0) (tree_meets r (and_parts (reads L f l) (reads L f r) e).1)
   tree_meets (Or l r) e =
       or_cases (reads L f l) (reads L f r) (λ p. intersect_left (required_guards l) (required_guards r) (tree_meets l p))
       (λ p. intersect_right (required_guards l) (required_guards r) (tree_meets r p)) e
@@ -122,13 +123,9 @@ module _ (L : LinkType) (f : List ℕ) where
   -- ---- hoisting: the tests that both sides of an `or` need
 
   -- the question that a hoisted test decides
-  abbrev asks : Option ℕ → (ℕ → Bool) → Bool
+  abbrev asks : {A : Type 0} → Option A → (A → Bool) → Bool
   asks None q = true
   asks (Some a) q = q a
-
-  abbrev asks_ports : Option L4Set → (L4Set → Bool) → Bool
-  asks_ports None q = true
-  asks_ports (Some a) q = q a
 
   hoist_known_lem : (k : Option ℕ) (e : ℕ → Facts → Out Code) (q : ℕ → Bool) → ((v : ℕ) (g : Facts) → Raw L g.ethertype → All (Emits L f Never g (q v)) (e v g))
       → (g : Facts) (P : Bool) (c : Code) → Emits L f Never g P c → All (Emits L f Never g (P && asks k q)) (hoist_known L k e c)
@@ -136,7 +133,7 @@ module _ (L : LinkType) (f : List ℕ) where
   hoist_known_lem (Some v) e q h g P c k =
       all_bind (Emits L f Never c.facts (q v)) _ (e v c.facts) _ (h v c.facts k.raw) (λ d j. record { decides = seq k.decides j.decides; raw = j.raw })
 
-  hoist_ports_lem : (k : Option L4Set) (g : Facts) (P : Bool) (c : Code) → Emits L f Never g P c → All (Emits L f Never g (P && asks_ports k (has_ports L f))) (hoist_ports L k c)
+  hoist_ports_lem : (k : Option L4Set) (g : Facts) (P : Bool) (c : Code) → Emits L f Never g P c → All (Emits L f Never g (P && asks k (has_ports L f))) (hoist_ports L k c)
   hoist_ports_lem None g P c k = record { decides = equal (sym (and-true P)) k.decides; raw = k.raw }
   hoist_ports_lem (Some want) g P c k =
       record {
@@ -148,7 +145,7 @@ module _ (L : LinkType) (f : List ℕ) where
   abbrev wanted : GuardSet → Bool
   wanted r =
       (((true && asks (cond (is_raw L) None r.ethertype) (kind L f)) && asks r.ip4_proto (ipv4 L f)) && asks r.ip6_nh (ipv6 L f))
-      && asks_ports r.port_prereqs (has_ports L f)
+      && asks r.port_prereqs (has_ports L f)
 
   hoist_emits : (r : GuardSet) (g : Facts) → Raw L g.ethertype → All (Emits L f Never g (wanted r)) (or_hoist L r g)
   unfolding or_hoist
@@ -161,21 +158,17 @@ module _ (L : LinkType) (f : List ℕ) where
       (hoist_known_lem r.ip6_nh (emit_ip6_l4 L) (ipv6 L f) (ip6_emits L f) g _ b h)
       (λ c h. hoist_ports_lem r.port_prereqs g _ c h)))
 
-  says_asks : (k : Option ℕ) (q : ℕ → Bool) → Says k (Passes q) → asks k q ≡ true
+  says_asks : {A : Type 0} (k : Option A) (q : A → Bool) → IfSome k (Passes q) → asks k q ≡ true
   says_asks None q h = refl
   says_asks (Some a) q h = h
 
-  says_asks_ports : (k : Option L4Set) (q : L4Set → Bool) → SaysPorts k (Passes q) → asks_ports k q ≡ true
-  says_asks_ports None q h = refl
-  says_asks_ports (Some a) q h = h
-
   meets_wanted : (r : GuardSet) → Meets r → wanted r ≡ true
   meets_wanted r m =
-      and_both _ _
-      (and_both _ _
-      (and_both _ _ (says_asks (cond (is_raw L) None r.ethertype) (kind L f) (either (λ k. Says k (Passes (kind L f))) (is_raw L) tt m.ethertype)) (says_asks r.ip4_proto (ipv4 L f) m.ip4))
+      and_from _ _
+      (and_from _ _
+      (and_from _ _ (says_asks (cond (is_raw L) None r.ethertype) (kind L f) (either (λ k. IfSome k (Passes (kind L f))) (is_raw L) tt m.ethertype)) (says_asks r.ip4_proto (ipv4 L f) m.ip4))
       (says_asks r.ip6_nh (ipv6 L f) m.ip6))
-      (says_asks_ports r.port_prereqs (has_ports L f) m.ports)
+      (says_asks r.port_prereqs (has_ports L f) m.ports)
 
   -- ---- the tree
 

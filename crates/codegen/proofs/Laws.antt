@@ -2,7 +2,7 @@
 use Prim.Native.Nat.{ℕ, zero, suc, ◌+◌, ◌*◌, ◌%◌}
 use mathlib.Core.Path.{◌≡◌, refl, ap}
 use mathlib.Core.List.{List, [], ◌∷◌, ◌++◌}
-use mathlib.Core.Bool.{Bool, true, false, cond, not, ◌&&◌, ◌||◌, and-true, true≢false}
+use mathlib.Core.Bool.{Bool, true, false, cond, not, ◌&&◌, ◌||◌, and-true}
 use lib.ListN.{length}
 use lib.Bits.{bit_and}
 use Rattle.bpf.specs.Bytes.{be}
@@ -51,28 +51,22 @@ pub record Decides (f : List ℕ) (S : Type 0) (G : Known) (b : Block) (P : Bool
   pub right : (c a x : ℕ) → G a x → Right S P D (run f b 0 c a x)
 
 settle_right : (S : Type 0) (D : Known) (P : Bool) (o : Ending) → Right S P D o → Right Never P D (redirect Success 0 o)
-settle_right S D P (fell zero c a x) r = r
 settle_right S D P (fell (suc n) c a x) r = r
 settle_right S D P (left Success c a x) r = (r.1, r.2)
-settle_right S D P (left Failure c a x) r = r
-settle_right S D P (cut c) r = tt
+settle_right S D P o r = r
 
 -- what is known where a block left by failure
 abbrev pub AtFailure : Known → Ending → Type 0
-AtFailure N (fell n c a x) = Unit {0}
-AtFailure N (left Success c a x) = Unit {0}
 AtFailure N (left Failure c a x) = N a x
-AtFailure N (cut c) = Unit {0}
+AtFailure N o = Unit {0}
 
 jump : Block
 jump = Jump (Leave Success) ∷ []
 
 adapt_right : (S S' : Type 0) (D D' : Known) (P : Bool) → (S → S') → ((a x : ℕ) → P ≡ true → D a x → D' a x) → (o : Ending) → Right S P D o → Right S' P D' o
 adapt_right S S' D D' P s w (fell zero c a x) r = (r.0, w a x r.0 r.1)
-adapt_right S S' D D' P s w (fell (suc m) c a x) r = r
 adapt_right S S' D D' P s w (left Success c a x) r = (s r.0, r.1, w a x r.1 r.2)
-adapt_right S S' D D' P s w (left Failure c a x) r = r
-adapt_right S S' D D' P s w (cut c) r = tt
+adapt_right S S' D D' P s w o r = r
 
 also_right : (S : Type 0) (D : Known) (P Q : Bool) → ((a x : ℕ) → D a x → Q ≡ true) → (o : Ending) → Right S P D o → Right S (P && Q) D o
 also_right S D P Q h (fell zero c a x) r = (rw r.0 (h a x r.1), r.1)
@@ -216,11 +210,6 @@ module _ {f : List ℕ} where
   pub also : {S : Type 0} {G D : Known} {b : Block} {P : Bool} (Q : Bool) → ((a x : ℕ) → D a x → Q ≡ true) → Decides f S G b P D → Decides f S G b (P && Q) D
   also {S} {G} {D} {b} {P} Q w h = record { right = λ c a x g. also_right S D P Q w (run f b 0 c a x) (h.right c a x g) }
 
-  -- by a test on numbers
-  pub choose : {S : Type 0} {G D : Known} {b k : Block} {P Q : Bool} (t : Bool) → Decides f S G b P D → Decides f S G k Q D → Decides f S G (cond t b k) (cond t P Q) D
-  choose true h j = h
-  choose false h j = j
-
   -- what G shows to be true needs no code
   pub known : {S : Type 0} {G D : Known} {P : Bool} → ((a x : ℕ) → G a x → (P ≡ true) × D a x) → Decides f S G [] P D
   unfolding run
@@ -306,14 +295,12 @@ module _ {f : List ℕ} where
   pub lastly : {S : Type 0} {G : ℕ → Type 0} {v : ℕ} (t : Test) (k : ℕ)
       → Decides f S (With v G) (Branch t k Jf (Leave Failure) ∷ []) (compare t v k) (OfX G)
   lastly t k = equal (and-true _) (needed t k (known (λ a x g. (refl, g.1))))
-  -- ---- X where a block left by failure
 
 -- ---- X where a block left by failure
 
 same_any : (x : ℕ) (o : Ending) → SameX true x o
-same_any x (fell n c a y) = λ e. absurd (true≢false e)
-same_any x (left p c a y) = λ e. absurd (true≢false e)
 same_any x (cut c) = tt
+same_any x o = λ e. cc
 
 same_more : (u w : Bool) (x : ℕ) (o : Ending) → SameX w x o → SameX (u || w) x o
 same_more true w x o h = same_any x o
@@ -345,10 +332,8 @@ module _ (f : List ℕ) where
   run_keeps (l ∷ b) zero c a x = same_line (writes_x b) x l a (suc c) (run f b) (λ n c a. run_keeps b n c a x)
 
   at_failure : (w : Bool) (G N : ℕ → Type 0) (x : ℕ) → G x → ((y : ℕ) → (w ≡ false → y ≡ x) → N y) → (o : Ending) → SameX w x o → AtFailure (OfX N) o
-  at_failure w G N x g h (fell n c a y) s = tt
-  at_failure w G N x g h (left Success c a y) s = tt
   at_failure w G N x g h (left Failure c a y) s = h y s
-  at_failure w G N x g h (cut c) s = tt
+  at_failure w G N x g h o s = tt
 
   -- what is known where a block left by failure: X is as before, unless the block writes it
   pub kept : (b : Block) (G N : ℕ → Type 0) → ((x y : ℕ) → G x → (writes_x b ≡ false → y ≡ x) → N y)

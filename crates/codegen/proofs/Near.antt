@@ -3,13 +3,14 @@
 use Prim.Native.Nat.{ℕ, zero, suc, ◌+◌, ◌*◌, ◌%◌, ◌^◌, ◌≤◌, ◌<◌}
 use mathlib.Core.Path.{◌≡◌, refl, ap}
 use mathlib.Core.List.{List, [], ◌∷◌, ◌++◌}
-use mathlib.Core.Bool.{Bool, true, false, cond}
+use mathlib.Core.Bool.{cond}
 use native.Mathlib.Omega.{arith}
 use native.Mathlib.Nat.{le_refl, le_trans, mod-lt, mod-le}
 use lib.ListN.{length, length-append}
 use lib.Dec.{lit<}
 use lib.Bits.{bit_and}
 use borrow.Author.Tests.{le-leb}
+use Rattle.error.proofs.All.{either}
 use Rattle.bpf.specs.Bytes.{be}
 use Rattle.codegen.specs.declared.Op.{Op}
 use Rattle.codegen.specs.declared.Op.TheVariants.{LdAbs, LdhInd, LdxMsh, LdxImm, AndK}
@@ -20,7 +21,7 @@ use Rattle.codegen.specs.declared.Exit.TheVariants.{Skip, Leave}
 use Rattle.codegen.specs.declared.Line.{Line}
 use Rattle.codegen.specs.declared.Line.TheVariants.{Plain, Branch, Jump}
 use Rattle.codegen.specs.Block.{bytes}
-use Rattle.codegen.specs.Block.{Block, settle, turn, otherwise, same, swap, swap_line}
+use Rattle.codegen.specs.Block.{Block, settle, turn, same, swap, swap_line}
 use Rattle.codegen.proofs.Semantics.{Ending, fell, left, cut, to, loaded, inside, compare, taken, indexed, line, pursue, run, length_settle}
 
 -- ---- the rule
@@ -65,11 +66,7 @@ made_append N d (l ∷ b) k h j =
 
 lands_swap : (m : ℕ) (e : Side) (e' p : Exit) → Lands m e' → Lands m p → Lands m (swap e e' p)
 lands_swap m e e' (Skip n) h k = k
-lands_swap m e e' (Leave p) h k = go (same e p)
-  where
-    go : (b : Bool) → Lands m (cond b e' (Leave p))
-    go true = h
-    go false = tt
+lands_swap m e e' (Leave p) h k = either (Lands m) (same e p) h tt
 
 line_swap : (N m : ℕ) (e : Side) (e' : Exit) (l : Line) → Lands m e' → MadeLine N m l → MadeLine N m (swap_line e e' l)
 line_swap N m e e' (Plain o) h k = k
@@ -94,10 +91,6 @@ pub made_turn : (N d : ℕ) (b : Block) → Made N d b → Made N d (turn b)
 unfolding turn
 made_turn N d [] k = tt
 made_turn N d (l ∷ b) k = (rw (length_turn b) (line_swap N (length b + d) Success (Leave Failure) l tt k.0), made_turn N d b k.1)
-
-pub made_otherwise : (N : ℕ) (b : Block) → Made N 0 b → Made N 0 (otherwise b)
-unfolding otherwise
-made_otherwise N b h = made_settle N 0 0 Failure (b ++ (Jump (Leave Success) ∷ [])) (le_refl 0) (made_append N 0 b (Jump (Leave Success) ∷ []) h (tt, tt))
 
 -- ---- such a block is never cut on a frame of N bytes
 

@@ -1,15 +1,16 @@
 -- T-02's page: a net's tests follow from its sixteen numbers and the address's place.
-use Prim.Native.Nat.{ℕ, zero, suc, ◌+◌, ◌*◌, ◌-◌, ◌^◌, ◌<◌, ◌≤◌}
+use Prim.Native.Nat.{ℕ, suc, ◌+◌, ◌*◌, ◌-◌, ◌^◌, ◌<◌, ◌≤◌}
 use mathlib.Core.Path.{◌≡◌, refl, sym, ap, ap₂, ◌∙◌}
 use mathlib.Core.List.{List, [], ◌∷◌}
-use mathlib.Core.Bool.{Bool, true, false, ◌&&◌}
+use mathlib.Core.Bool.{Bool, true}
 use native.Mathlib.Omega.{arith}
-use borrow.Author.Tests.{eqb-true, eqb-false, ne_eqb, le-leb}
+use borrow.Author.Tests.{eqb-true, ne_eqb, le-leb}
 use lib.Bits.{bit_and, and_block}
 use lib.Arith.{digits_lt}
 use lib.Pow.{pow_pos, pow-add, pow-sub-lt}
 use lib.Dec.{eqb, leb}
 use lib.ListN.{length}
+use Rattle.std.proofs.lemmas.Bool.{agree_below, agree_below_at}
 use Rattle.error.proofs.All.{either}
 use Rattle.bpf.specs.Program.{Each}
 use Rattle.ast.proofs.Proper.{Half}
@@ -23,7 +24,6 @@ use Rattle.codegen.specs.declared.Slot.TheVariants.{Jf}
 use Rattle.codegen.specs.declared.Line.TheVariants.{Plain, Branch, Jump}
 use Rattle.codegen.specs.Block.{Block}
 use Rattle.codegen.specs.Emit.{net_offset, need, check_blocks, check_ip6_addr, mask16, check_net6, guarded, emit_primitive}
-use Rattle.codegen.proofs.FactsHold.{and_left, and_right}
 use Rattle.codegen.specs.Nets6.{tabulate, mask_of, masks, under, expected, last_test, tests, Address, joined, Aside, Nets6}
 use Rattle.codegen.proofs.Segment.{step}
 
@@ -78,27 +78,15 @@ whole_prefix p at (s ∷ ss) h = rw (ne_eqb p 0 (λ e. omega arith), le-leb 16 p
 
 -- ---- the masks as one number: each prefix byte is computed
 
-abbrev every : ℕ → (ℕ → Bool) → Bool
-every zero q = true
-every (suc n) q = q n && every n q
-
-every_at : (n i : ℕ) (q : ℕ → Bool) → every n q ≡ true → i < n → q i ≡ true
-every_at zero i q e h = absurd (omega arith)
-every_at (suc n) i q e h = go (eqb i n) refl (λ k. every_at n i q (and_right (q n) (every n q) e) k)
-  where
-    go : (t : Bool) → eqb i n ≡ t → (i < n → q i ≡ true) → q i ≡ true
-    go true g below = ap q (eqb-true i n g) ∙ and_left (q n) (every n q) e
-    go false g below = below (omega (arith, eqb-false i n g))
-
 abbrev is_netmask : ℕ → Bool
 is_netmask p = eqb (joined (masks p)) (2 ^ 128 - 2 ^ (128 - p))
 
-netmasks : every 256 is_netmask ≡ true
+netmasks : agree_below is_netmask (λ p. true) 256 ≡ true
 unfolding joined tabulate
 netmasks = refl
 
 netmask : (p : ℕ) → p < 256 → joined (masks p) ≡ 2 ^ 128 - 2 ^ (128 - p)
-netmask p h = eqb-true _ _ (every_at 256 p is_netmask netmasks h)
+netmask p h = eqb-true _ _ (agree_below_at is_netmask (λ p. true) 256 p netmasks h)
 
 -- ---- the expected segments as one number
 

@@ -1,32 +1,24 @@
 -- Comparisons by masks and by parts, as the code makes them, are those of the direct reading.
 use Prim.Native.Nat.{ℕ, zero, suc, ◌+◌, ◌*◌, ◌-◌, ◌/◌, ◌%◌, ◌^◌, ◌<◌}
-use mathlib.Core.Path.{◌≡◌, refl, sym, ap, ◌∙◌}
+use mathlib.Core.Path.{◌≡◌, refl, ap, ◌∙◌}
 use mathlib.Core.List.{List}
-use mathlib.Core.Bool.{Bool, true, false, not, ◌&&◌, not-not}
+use mathlib.Core.Bool.{Bool, true, not, ◌&&◌, not-not}
 use native.Mathlib.Omega.{arith}
-use native.Mathlib.Nat.{mod-lt, mod-eq_of_lt, div-lt_iff_lt-mul, eq_of_mul-eq-mul_right, not-suc-le-zero, le_of_suc-le-suc}
+use native.Mathlib.Nat.{mod-eq_of_lt, div-lt_iff_lt-mul, eq_of_mul-eq-mul_right}
 use lib.Pow.{pow_pos, pow-add}
 use lib.ListN.{get_or}
-use lib.Dec.{eqb, ltb, leb, lit<}
+use lib.Dec.{eqb, ltb, leb}
 use lib.Bits.{bit_and, and_mask, and_high}
-use borrow.Author.Tests.{eqb-true, eqb-false, eq-eqb, ne_eqb, leb-true, leb-false, le-ltb, lt-ltb}
+use Rattle.std.proofs.lemmas.Bool.Decides.{nat_tests}
 use Rattle.bpf.specs.Bytes.{be, AreBytes}
 
 -- ---- a comparison equals another where each shows the other
 
 pub eqb_iff : (a b c d : ℕ) → (a ≡ b → c ≡ d) → (c ≡ d → a ≡ b) → eqb a b ≡ eqb c d
-eqb_iff a b c d h j = go (eqb a b) refl
-  where
-    go : (t : Bool) → eqb a b ≡ t → t ≡ eqb c d
-    go true e = sym (eq-eqb c d (h (eqb-true a b e)))
-    go false e = sym (ne_eqb c d (λ q. eqb-false a b e (j q)))
+eqb_iff a b c d h j = grind (arith, nat_tests, h, j)
 
 pub not_lt : (m n : ℕ) → not (ltb m n) ≡ leb n m
-not_lt m n = go (leb n m) refl
-  where
-    go : (b : Bool) → leb n m ≡ b → not (ltb m n) ≡ b
-    go true e = rw (le-ltb m n (leb-true n m e))
-    go false e = rw (lt-ltb m n (leb-false n m e))
+not_lt m n = grind (arith, nat_tests)
 
 -- ---- the last bits, by a mask
 
@@ -34,12 +26,7 @@ pub low_zero : (n k : ℕ) → not (not (eqb (bit_and n (2 ^ k - 1)) 0)) ≡ eqb
 low_zero n k = rw (not-not, and_mask n k)
 
 pub low_one : (n : ℕ) → not (eqb (bit_and n 1) 0) ≡ eqb (n % 2) 1
-low_one n = rw (and_mask n 1) (go (n % 2) (mod-lt n (lit< tt)))
-  where
-    go : (m : ℕ) → m < 2 → not (eqb m 0) ≡ eqb m 1
-    go zero h = refl
-    go (suc zero) h = refl
-    go (suc (suc m)) h = absurd (not-suc-le-zero (le_of_suc-le-suc (le_of_suc-le-suc h)))
+low_one n = rw (and_mask n 1) (grind (arith, nat_tests))
 
 -- ---- the first bits, by a mask: j of the j + k bits of a number
 
@@ -59,11 +46,7 @@ top_bits n h = rw (high n 4 28 h) (times_eqb (n / 2 ^ 28) 14 28)
 -- ---- bytes one by one
 
 pair_eqb : (x y u v : ℕ) → u < 256 → v < 256 → eqb (x * 256 + u) (y * 256 + v) ≡ (eqb x y && eqb u v)
-pair_eqb x y u v h i = go (eqb x y) refl
-  where
-    go : (t : Bool) → eqb x y ≡ t → eqb (x * 256 + u) (y * 256 + v) ≡ (t && eqb u v)
-    go true e = eqb_iff (x * 256 + u) (y * 256 + v) u v (λ q. omega (arith, eqb-true x y e)) (λ q. omega (arith, eqb-true x y e))
-    go false e = ne_eqb (x * 256 + u) (y * 256 + v) (λ q. eqb-false x y e (omega arith))
+pair_eqb x y u v h i = grind (arith, nat_tests)
 
 -- n bytes of one list are those of another
 abbrev pub same_bytes : ℕ → ℕ → List ℕ → ℕ → List ℕ → Bool

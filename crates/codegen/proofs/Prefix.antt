@@ -65,9 +65,8 @@ module _ (f e : List ℕ) where
   -- the two returns read nothing
   returns_same : (n t a x : ℕ) (m : List ℕ) → exec (f ++ e) returns n t a x m ≡ exec f returns n t a x m
   unfolding exec effect
-  returns_same zero t a x m = refl
-  returns_same (suc zero) t a x m = refl
   returns_same (suc (suc n)) t a x m = refl
+  returns_same n t a x m = refl
 
   finish_same : (o o' : Ending) (r r' : Outcome) → Same o o' → Agrees memory (exec f returns) (redirect Failure 1 (redirect Success 0 o)) r
       → Agrees memory (exec (f ++ e) returns) (redirect Failure 1 (redirect Success 0 o')) r' → (r.verdict ≡ Short → ⊥) → r' ≡ r

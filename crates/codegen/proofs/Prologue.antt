@@ -1,12 +1,12 @@
 -- The port prologue decides whether the packet has ports of the wanted protocols, and then X is the length of the network header.
-use Rattle.std.specs.Prelude.{Option, None, Some}
+use Rattle.std.specs.Prelude.{Option, None, Some, IfSome}
 use Prim.Native.Nat.{ℕ, ◌+◌, ◌*◌, ◌%◌, ◌^◌}
 use mathlib.Core.Path.{◌≡◌, refl, sym, ap, ◌∙◌}
 use mathlib.Core.List.{List, ◌++◌}
 use mathlib.Core.Bool.{Bool, true, false, cond, ◌&&◌, and-true, or-false, false≢true, true≢false}
-use native.Mathlib.Omega.{arith}
 use lib.Dec.{eqb}
 use borrow.Author.Tests.{eqb-true, eq-eqb}
+use Rattle.std.proofs.lemmas.Bool.{and_parts, and_from}
 use Rattle.error.proofs.All.{cases, either}
 use Rattle.bpf.specs.Bytes.{be}
 use Rattle.ast.specs.declared.LinkType.{LinkType}
@@ -22,8 +22,8 @@ use Rattle.codegen.specs.Block.{Block}
 use Rattle.codegen.specs.Emit.{net_offset, ether_proto_offset, Code, code, l4_set_check, l4_check, header4, header6, fork, dual_path, Prologue, pinned, version, learn_set, established, dual, port_prereqs}
 use Rattle.codegen.proofs.Laws.{With, OfX, Never, Decides, seq, equal, given, learning, known, load, load_x, set_x, needed, barred, over, forked, supposing, lastly}
 use Rattle.codegen.proofs.Numbers.{low_zero}
-use Rattle.codegen.proofs.KnownLaws.{Says, SaysPorts, says_ready, says_holds}
-use Rattle.codegen.proofs.FactsHold.{and_left, and_right, and_both, Passes, Raw, first_part, has_ports, header_length, has_ports_grows, ready_at, Holds, holds_restored, holds_ip4, holds_ip6}
+use Rattle.codegen.proofs.KnownLaws.{says_holds}
+use Rattle.codegen.proofs.FactsHold.{Passes, Raw, first_part, has_ports, header_length, has_ports_grows, ready_at, Holds, holds_restored, holds_ip4, holds_ip6}
 
 module _ {f : List ℕ} {G : ℕ → Type 0} where
   set_decides : (want : L4Set) (v : ℕ) → Decides f Never (With v G) (l4_set_check want) (contains want v) (OfX G)
@@ -51,15 +51,13 @@ module _ {f : List ℕ} {G : ℕ → Type 0} where
 -- h at the ethertype's place tells the kind
 pub kind_at : (L : LinkType) (f : List ℕ) (off v : ℕ) → ether_proto_offset L ≡ Some off → eqb (be 2 off f) v ≡ kind L f v
 unfolding kind
-kind_at Ethernet f off v e = let p : 12 ≡ off = cc in ap (λ o. eqb (be 2 o f) v) (sym p)
-kind_at RawIp f off v e = let z : ◌≡◌ {A = ℕ} 0 1 = cc in absurd (omega arith)
-kind_at LinuxSll f off v e = let p : 14 ≡ off = cc in ap (λ o. eqb (be 2 o f) v) (sym p)
+kind_at RawIp f off v e = cc
+kind_at L f off v e = cc
 
 -- a link with no ethertype knows its kind
 raw_known : (L : LinkType) (k : Option ℕ) → ether_proto_offset L ≡ None → Raw L k → holds k 0x0800 ≡ false → ⊥
-raw_known Ethernet k e r h = let z : ◌≡◌ {A = ℕ} 0 1 = cc in omega arith
 raw_known RawIp k e r h = true≢false (rw r at h)
-raw_known LinuxSll k e r h = let z : ◌≡◌ {A = ℕ} 0 1 = cc in omega arith
+raw_known L k e r h = cc
 
 module _ (L : LinkType) (f : List ℕ) where
   -- the facts, and X is the length of the network header
@@ -73,7 +71,7 @@ module _ (L : LinkType) (f : List ℕ) where
       ethertype = h.ethertype;
       ip4 = h.ip4;
       ip6 = h.ip6;
-      ports = says_ready set (Passes (ready_at L f x)) (and_both (has_ports L f set) (eqb x (header_length L f)) p (eq-eqb x (header_length L f) e));
+      ports = and_from (has_ports L f set) (eqb x (header_length L f)) p (eq-eqb x (header_length L f) e);
     },
     e,
   )
@@ -99,7 +97,7 @@ module _ (L : LinkType) (f : List ℕ) where
     unfolding Base
     fresh want g = learning (λ a x e h. (h.0, h.1, e)) (equal (sym (has want)) (seq (l4_decides at want) (base g)))
 
-    pinned_decides : (want : L4Set) (k : Option ℕ) (g : Facts) → ((x : ℕ) → Holds L f g x → Says k (Passes (eqb (be 1 at f))))
+    pinned_decides : (want : L4Set) (k : Option ℕ) (g : Facts) → ((x : ℕ) → Holds L f g x → IfSome k (Passes (eqb (be 1 at f))))
         → Decides f Never (OfX (Holds L f g)) (pinned k at want header).block (has_ports L f want) (OfX (Passed g (pinned k at want header).set))
     pinned_decides want None g i = fresh want g
     pinned_decides want (Some p) g i = go (contains want p) refl
@@ -109,33 +107,33 @@ module _ (L : LinkType) (f : List ℕ) where
             Decides f Never (OfX (Holds L f g)) q.block (has_ports L f want) (OfX (Passed g q.set))
         go true e =
             unfold Base in supposing (λ a x h. i x h)
-            (λ q. learning (λ a x t h. (h.0, h.1, has (One p) ∙ and_both (eqb (be 1 at f) p) Z q (and_right (contains want (be 1 at f)) Z (sym (has want) ∙ t))))
+            (λ q. learning (λ a x t h. (h.0, h.1, has (One p) ∙ and_from (eqb (be 1 at f) p) Z q (and_parts (contains want (be 1 at f)) Z (sym (has want) ∙ t)).1))
             (equal (sym (has want ∙ ap (λ n. contains want n && Z) (eqb-true (be 1 at f) p q) ∙ ap (λ b. b && Z) e)) (base g)))
         go false e = fresh want g
 
     version_block : (want : L4Set) (r : Option L4Set) (k : Option ℕ) (g : Facts)
-        → ((x : ℕ) → Holds L f g x → SaysPorts r (Passes (ready_at L f x))) → ((x : ℕ) → Holds L f g x → Says k (Passes (eqb (be 1 at f))))
+        → ((x : ℕ) → Holds L f g x → IfSome r (Passes (ready_at L f x))) → ((x : ℕ) → Holds L f g x → IfSome k (Passes (eqb (be 1 at f))))
         → Decides f Never (OfX (Holds L f g)) (version r k at want header).block (has_ports L f want) (OfX (Passed g (version r k at want header).set))
     version_block want (Some have) k g i j =
-        supposing (λ a x h. and_right (contains have (be 1 at f)) Z (sym (has have) ∙ and_left (has_ports L f have) (eqb x (header_length L f)) (i x h)))
+        supposing (λ a x h. (and_parts (contains have (be 1 at f)) Z (sym (has have) ∙ (and_parts (has_ports L f have) (eqb x (header_length L f)) (i x h)).0)).1)
         (λ z. learning
         (λ a x e h. (
           holds_restored L f true g x x h (λ e. refl),
-          eqb-true x (header_length L f) (and_right (has_ports L f have) (eqb x (header_length L f)) (i x h)) ∙ long,
+          eqb-true x (header_length L f) (and_parts (has_ports L f have) (eqb x (header_length L f)) (i x h)).1 ∙ long,
           e,
         ))
         (equal (sym (has want ∙ ap (λ b. contains want (be 1 at f) && b) z ∙ and-true _)) (l4_decides at want)))
     version_block want None k g i j = pinned_decides want k g j
 
     module _ (get : Facts → Option ℕ) (learn : Facts → ℕ → Facts)
-        (gets : (g : Facts) (x : ℕ) → Holds L f g x → Says (get g) (Passes (eqb (be 1 at f))))
+        (gets : (g : Facts) (x : ℕ) → Holds L f g x → IfSome (get g) (Passes (eqb (be 1 at f))))
         (learns : (g : Facts) (p x : ℕ) → Holds L f g x → eqb (be 1 at f) p ≡ true → Holds L f (learn g p) x)
         (keeps : (g : Facts) (p : ℕ) (r : Option L4Set) → learn (with_ports g r) p ≡ with_ports (learn g p) r) where
       learned : (g : Facts) (set : L4Set) (x : ℕ) → Passed g set x → Ported (with_ports (learn_set learn g set) (Some set)) x
       learned g (One p) x h =
           let k = readied g (One p) x h.0 (h.1 ∙ sym long) h.2 in (
             rw (← keeps g p (Some (One p)))
-                (learns (with_ports g (Some (One p))) p x k.0 (and_left (eqb (be 1 at f) p) Z (sym (has (One p)) ∙ h.2))),
+                (learns (with_ports g (Some (One p))) p x k.0 (and_parts (eqb (be 1 at f) p) Z (sym (has (One p)) ∙ h.2)).0),
             k.1,
           )
       learned g TcpOrUdp x h = readied g TcpOrUdp x h.0 (h.1 ∙ sym long) h.2
@@ -186,11 +184,11 @@ module _ (L : LinkType) (f : List ℕ) where
   abbrev pub Readies : Facts → L4Set → Code → Type 0
   Readies g want c = Decides f Never (OfX (Holds L f g)) c.block (has_ports L f want) (OfX (Ported c.facts))
 
-  already : (r : Option L4Set) (want : L4Set) (x : ℕ) → as_strict r want ≡ true → SaysPorts r (Passes (ready_at L f x)) → (has_ports L f want ≡ true) × (x ≡ header_length L f)
+  already : (r : Option L4Set) (want : L4Set) (x : ℕ) → as_strict r want ≡ true → IfSome r (Passes (ready_at L f x)) → (has_ports L f want ≡ true) × (x ≡ header_length L f)
   already None want x e h = absurd (false≢true e)
   already (Some have) want x e h = (
-    has_ports_grows L f have want e (and_left (has_ports L f have) (eqb x (header_length L f)) h),
-    eqb-true x (header_length L f) (and_right (has_ports L f have) (eqb x (header_length L f)) h),
+    has_ports_grows L f have want e (and_parts (has_ports L f have) (eqb x (header_length L f)) h).0,
+    eqb-true x (header_length L f) (and_parts (has_ports L f have) (eqb x (header_length L f)) h).1,
   )
 
   known_4 : (want : L4Set) (g : Facts) → holds g.ethertype 0x0800 ≡ true
@@ -245,8 +243,8 @@ module _ (L : LinkType) (f : List ℕ) where
       where
         passed_4 : (x : ℕ) → (eqb (be 2 off f) 0x0800 && four) ≡ true → Bare (4 * (be 1 (net_offset L) f % 16)) x → Ported (with_ports g (Some want)) x
         passed_4 x p h =
-            let k = sym (at_off 0x0800) ∙ and_left (eqb (be 2 off f) 0x0800) four p in
-            readied g want x h.0 (h.1 ∙ sym (header_4 k)) (ports_4 k want ∙ and_right (eqb (be 2 off f) 0x0800) four p)
+            let k = sym (at_off 0x0800) ∙ (and_parts (eqb (be 2 off f) 0x0800) four p).0 in
+            readied g want x h.0 (h.1 ∙ sym (header_4 k)) (ports_4 k want ∙ (and_parts (eqb (be 2 off f) 0x0800) four p).1)
 
         passed_6 : kind L f 0x86dd ≡ true → (x : ℕ) → (contains want (be 1 (net_offset L + 6) f) && true) ≡ true → Bare 40 x → Ported (with_ports g (Some want)) x
         passed_6 k x p h = readied g want x h.0 (h.1 ∙ sym (header_6 k)) (ports_6 k want ∙ p)

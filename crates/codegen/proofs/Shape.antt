@@ -1,5 +1,5 @@
 -- The shape of what the generator emits: its loads, its numbers, its jumps and its length.
-use Rattle.std.specs.Prelude.{Option, None, Some}
+use Rattle.std.specs.Prelude.{Option, None, Some, IfSome}
 use Rattle.std.specs.Prelude.{Ok, Err}
 use Prim.Native.Nat.{ℕ, suc, ◌+◌, ◌*◌, ◌-◌, ◌≤◌}
 use mathlib.Core.List.{List, [], ◌∷◌, ◌++◌}
@@ -19,7 +19,7 @@ use Rattle.ast.specs.declared.LinkType.TheVariants.{Ethernet, RawIp, LinuxSll}
 use Rattle.ast.specs.declared.Dir.{Dir}
 use Rattle.ast.specs.declared.Dir.TheVariants.{SrcOrDst, Src, Dst, SrcAndDst}
 use Rattle.ast.specs.declared.Proto.{Proto}
-use Rattle.ast.specs.declared.Proto.TheVariants.{Ip, Ip6, Arp, Rarp, Tcp, Udp, Icmp, Icmp6, Igmp, Sctp, Num, Ip6Proto}
+use Rattle.ast.specs.declared.Proto.TheVariants.{Tcp, Udp, Sctp, Ip6Proto}
 use Rattle.ast.specs.declared.Primitive.{Primitive}
 use Rattle.ast.specs.declared.Primitive.TheVariants.{Protocol, Host4, Host6, Net, Net6, Port, PortRange, EtherHost, EtherProto, EtherMulticast, IpBroadcast, IpMulticast, Ip6Multicast, IpProtoChain, Ip6ProtoChain}
 use Rattle.ast.specs.Tree.{Expr, Leaf, And, Or, Not}
@@ -42,7 +42,7 @@ use Rattle.codegen.specs.Block.{Block, settle, turn, otherwise}
 use Rattle.codegen.specs.Emit.{net_offset, ether_proto_offset, is_raw, Code, code, need, check, check_loads, check_blocks, check_ip6_addr, mask16, check_net6, check_range, check_mac, l4_set_check, l4_check, header4, header6, fork, dual_path, Prologue, version, dual, emit_ethertype, guarded, emit_l4, emit_ip4_l4, emit_ip6_l4, emit_row, port_prereqs, ported, turned, by_link, no_address, sender, ether, emit_primitive, hoist_known, hoist_ports, or_hoist, emit, restored_after}
 use Rattle.codegen.proofs.Segment.{net_none}
 use Rattle.codegen.proofs.Semantics.{length_settle}
-use Rattle.codegen.proofs.KnownLaws.{Says, SaysPorts, says_ready, GuardsSay, union_says, intersect_left}
+use Rattle.codegen.proofs.KnownLaws.{GuardsSay, union_says, intersect_left}
 use Rattle.codegen.proofs.Conditions.{by_link_lem}
 use Rattle.codegen.proofs.Joins.{resolved_then}
 use Rattle.codegen.proofs.Near.{Made, made_append, made_settle, made_turn, length_turn}
@@ -54,65 +54,35 @@ SmallSet (One n) = Word n
 SmallSet TcpOrUdp = Unit {0}
 
 abbrev pub SmallKnown : Option ℕ → Type 0
-SmallKnown k = Says k Word
+SmallKnown k = IfSome k Word
 
 abbrev pub SmallPorts : Option L4Set → Type 0
-SmallPorts p = SaysPorts p SmallSet
+SmallPorts p = IfSome p SmallSet
 
 abbrev pub SmallGuards : GuardSet → Type 0
 SmallGuards g = GuardsSay Word Word Word SmallSet g
 
 set_small : (p : Option Proto) → All SmallSet (l4set_for p)
-set_small None = tt
-set_small (Some Ip) = tt
-set_small (Some Ip6) = tt
-set_small (Some Arp) = tt
-set_small (Some Rarp) = tt
 set_small (Some Tcp) = omega arith
 set_small (Some Udp) = omega arith
-set_small (Some Icmp) = tt
-set_small (Some Icmp6) = tt
-set_small (Some Igmp) = tt
 set_small (Some Sctp) = omega arith
-set_small (Some (Num n)) = tt
-set_small (Some (Ip6Proto n)) = tt
+set_small p = tt
 
 ports_small : (o : Out L4Set) → All SmallSet o → SmallPorts (set_of o)
 ports_small (Err r) h = tt
-ports_small (Ok s) h = says_ready s SmallSet h
+ports_small (Ok s) h = h
 
 proto_small : (p : Proto) → ProperProto p → SmallGuards (primitive_guards (Protocol p))
 unfolding primitive_guards
-proto_small Ip h = omega arith
-proto_small Ip6 h = omega arith
-proto_small Arp h = omega arith
-proto_small Rarp h = omega arith
-proto_small Tcp h = omega arith
-proto_small Udp h = omega arith
-proto_small Icmp h = omega arith
-proto_small Icmp6 h = omega arith
-proto_small Igmp h = omega arith
-proto_small Sctp h = omega arith
-proto_small (Num n) h = omega arith
 proto_small (Ip6Proto n) h = omega arith
+proto_small p h = omega arith
 
 primitive_small : (p : Primitive) → ProperPrimitive p → SmallGuards (primitive_guards p)
 unfolding primitive_guards
 primitive_small (Protocol p) h = proto_small p h
-primitive_small (Host4 d a) h = omega arith
-primitive_small (Host6 d a) h = omega arith
-primitive_small (Net d a m) h = omega arith
-primitive_small (Net6 d p a) h = omega arith
 primitive_small (Port d p k) h = record { ethertype = tt; ip4 = tt; ip6 = tt; ports = ports_small (l4set_for p) (set_small p) }
 primitive_small (PortRange d p lo hi) h = record { ethertype = tt; ip4 = tt; ip6 = tt; ports = ports_small (l4set_for p) (set_small p) }
-primitive_small (EtherHost d a) h = omega arith
-primitive_small (EtherProto v) h = omega arith
-primitive_small EtherMulticast h = omega arith
-primitive_small IpBroadcast h = omega arith
-primitive_small IpMulticast h = omega arith
-primitive_small Ip6Multicast h = omega arith
-primitive_small (IpProtoChain n) h = omega arith
-primitive_small (Ip6ProtoChain n) h = omega arith
+primitive_small p h = omega arith
 
 pub guards_small : (t : Expr) → Proper t → SmallGuards (required_guards t)
 unfolding required_guards
@@ -214,10 +184,8 @@ ethertype_shape LinuxSll v g i = either (All (Fits LinuxSll 2)) (holds g.etherty
 dual_shape : (L : LinkType) (s : L4Set) (g : Facts) → SmallSet s → Fits L 14 (dual (ether_proto_offset L) (net_offset L) s g)
 unfolding dual_path fork l4_check l4_set_check header4 header6
 dual_shape Ethernet (One p) g i = omega arith
-dual_shape Ethernet TcpOrUdp g i = omega arith
-dual_shape RawIp s g i = omega arith
 dual_shape LinuxSll (One p) g i = omega arith
-dual_shape LinuxSll TcpOrUdp g i = omega arith
+dual_shape L s g i = omega arith
 
 module _ (L : LinkType) where
   guarded_shape : (v : ℕ) (g : Facts) {n : ℕ} {b : Block} → Shaped (net_offset L + 64) n b → Word v × (n ≤ 35) → All (Fits L 37) (guarded L v b g)
@@ -256,10 +224,8 @@ module _ (L : LinkType) where
       all_bind (Shaped (net_offset L + 64) 37) _ (by_link L b cooked) _ (by_link_lem (λ l. Shaped (net_offset L + 64) 37) L b cooked (more 37 l h) j) (λ k s. s)
 
   sender_shape : (d : Dir) (a : List ℕ) → Each Byte a → All (Shaped (net_offset L + 64) 37) (sender d (check_mac a 6))
-  sender_shape SrcOrDst a h = tt
   sender_shape Src a h = more 37 (omega arith) (joined {m = 2} {b = check W.Half 4 6} (omega arith) (mac_shape a 6 (omega arith) h))
-  sender_shape Dst a h = tt
-  sender_shape SrcAndDst a h = tt
+  sender_shape d a h = tt
 
   -- ---- primitives
 
@@ -300,7 +266,7 @@ module _ (L : LinkType) where
   known_shape m n None e i h c k = more (m + n) (omega arith) k
   known_shape m n (Some v) e i h c k = all_bind (Fits L n) (Fits L (m + n)) (e v c.facts) _ (h v c.facts i) (λ d j. joined k j)
 
-  ports_shape : (m : ℕ) (p : Option L4Set) → SaysPorts p SmallSet → (c : Code) → Fits L m c → All (Fits L (m + 14)) (hoist_ports L p c)
+  ports_shape : (m : ℕ) (p : Option L4Set) → IfSome p SmallSet → (c : Code) → Fits L m c → All (Fits L (m + 14)) (hoist_ports L p c)
   ports_shape m None i c k = more (m + 14) (omega arith) k
   ports_shape m (Some s) i c k = joined k (prereqs_shape s c.facts i)
 

@@ -1,12 +1,13 @@
 -- What holds of every program that a proper tree compiles to: its size, its jumps, its fields, and how far it reads.
 use Prim.Native.Nat.{ℕ, zero, suc, ◌+◌, ◌*◌, ◌-◌, ◌/◌, ◌^◌, ◌≤◌, ◌<◌}
-use mathlib.Core.Path.{◌≡◌, refl}
+use mathlib.Core.Path.{◌≡◌}
 use mathlib.Core.List.{List, [], ◌∷◌, ◌++◌, map}
-use mathlib.Core.Bool.{Bool, true, false, ◌||◌, true≢false}
+use mathlib.Core.Bool.{false}
 use native.Mathlib.Omega.{arith}
 use lib.ListN.{length, get_or, length-append, length-map}
 use lib.Dec.{ltb}
 use borrow.Author.Tests.{ltb-false}
+use Rattle.std.proofs.lemmas.Bool.{or_parts}
 use Rattle.error.proofs.All.{All, all_bind}
 use Rattle.bpf.specs.declared.Insn.{Insn}
 use Rattle.bpf.specs.Program.{targets, Each}
@@ -15,16 +16,15 @@ use Rattle.vm.specs.declared.Verdict.TheVariants.{Short}
 use Rattle.vm.specs.declared.Outcome.{Outcome}
 use Rattle.vm.specs.Machine.{effect, exec, inner}
 use Rattle.ast.specs.declared.LinkType.{LinkType}
-use Rattle.ast.specs.declared.LinkType.TheVariants.{Ethernet, RawIp, LinuxSll}
 use Rattle.ast.specs.Tree.{Expr, Leaf, And, Or, Not, records}
 use Rattle.ast.proofs.Proper.{Proper}
-use Rattle.codegen.specs.declared.Width.TheVariants.{Byte, Half, Word}
-use Rattle.codegen.specs.declared.Op.TheVariants.{LdAbs, LdhInd, LdxMsh, LdxImm, AndK}
+use Rattle.codegen.specs.declared.Width.TheVariants.{Word}
+use Rattle.codegen.specs.declared.Op.TheVariants.{LdAbs}
 use Rattle.codegen.specs.declared.Test.TheVariants.{Jeq, Jgt, Jge, Jset}
 use Rattle.codegen.specs.declared.Side.TheVariants.{Success, Failure}
 use Rattle.codegen.specs.declared.Exit.{Exit}
 use Rattle.codegen.specs.declared.Exit.TheVariants.{Skip, Leave}
-use Rattle.codegen.specs.declared.Slot.TheVariants.{Jt, Jf}
+use Rattle.codegen.specs.declared.Slot.TheVariants.{Jf}
 use Rattle.codegen.specs.declared.Line.{Line}
 use Rattle.codegen.specs.declared.Line.TheVariants.{Plain, Branch, Jump}
 use Rattle.codegen.specs.Block.{Block, settle, distance, far_line, far, assemble}
@@ -35,6 +35,7 @@ use Rattle.codegen.proofs.Agree.{Agrees, memory, finished_agrees}
 use Rattle.codegen.proofs.Prefix.{program_of, finished_prefix}
 use Rattle.codegen.proofs.Near.{Lands, MadeLine, Made, made_settle, Uncut, run_uncut}
 use Rattle.codegen.proofs.Shape.{Shaped, Fits, weight, tree_shape}
+use Rattle.codegen.proofs.Conditions.{start_small}
 use Rattle.codegen.proofs.Joins.{resolved_then}
 
 -- what holds of a program p on the link L
@@ -82,32 +83,20 @@ near_exit m (Leave s) h e = omega arith
 
 line_stands : (N m : ℕ) → N < 2 ^ 32 → (l : Line) → MadeLine N (m + 1) l → far_line l ≡ false → Stands (m + 2) (assemble l)
 unfolding assemble
-line_stands N m n (Plain (LdAbs Byte k)) h e = omega arith
-line_stands N m n (Plain (LdAbs Half k)) h e = omega arith
-line_stands N m n (Plain (LdAbs Word k)) h e = omega arith
-line_stands N m n (Plain (LdhInd k)) h e = omega arith
-line_stands N m n (Plain (LdxMsh k)) h e = omega arith
-line_stands N m n (Plain (LdxImm k)) h e = omega arith
-line_stands N m n (Plain (AndK k)) h e = omega arith
-line_stands N m n (Branch Jeq k Jt p) h e = omega (arith, near_exit (m + 1) p h.1 e)
 line_stands N m n (Branch Jeq k Jf p) h e = omega (arith, near_exit (m + 1) p h.1 e)
-line_stands N m n (Branch Jgt k Jt p) h e = omega (arith, near_exit (m + 1) p h.1 e)
 line_stands N m n (Branch Jgt k Jf p) h e = omega (arith, near_exit (m + 1) p h.1 e)
-line_stands N m n (Branch Jge k Jt p) h e = omega (arith, near_exit (m + 1) p h.1 e)
 line_stands N m n (Branch Jge k Jf p) h e = omega (arith, near_exit (m + 1) p h.1 e)
-line_stands N m n (Branch Jset k Jt p) h e = omega (arith, near_exit (m + 1) p h.1 e)
 line_stands N m n (Branch Jset k Jf p) h e = omega (arith, near_exit (m + 1) p h.1 e)
+line_stands N m n (Branch t k s p) h e = omega (arith, near_exit (m + 1) p h.1 e)
 line_stands N m n (Jump p) h e = omega (arith, near_exit (m + 1) p h e)
-
-or_none : (b c : Bool) → (b || c) ≡ false → (b ≡ false) × (c ≡ false)
-or_none true c e = absurd (true≢false e)
-or_none false c e = (refl, e)
+line_stands N m n (Plain (LdAbs Word k)) h e = omega arith
+line_stands N m n (Plain o) h e = omega arith
 
 block_stands : (N : ℕ) → N < 2 ^ 32 → (b : Block) → Made N 1 b → far b ≡ false → AllStand (map assemble b ++ returns)
 unfolding far
 block_stands N n [] h e = omega arith
 block_stands N n (l ∷ b) h e =
-    let k = or_none (far_line l) (far b) e in
+    let k = or_parts (far_line l) (far b) e in
     (rw (length-append (map assemble b) returns, length-map b assemble) (line_stands N (length b) n l h.0 k.0), block_stands N n b h.1 k.1)
 
 stands_at : (p : List Insn) → AllStand p → (i m : ℕ) → i + suc m ≡ length p → (d : Insn) → Stands m (get_or p i d)
@@ -128,9 +117,8 @@ each_map q r h (n ∷ l) k = (h n k.0, each_map q r h l k.1)
 -- the two returns are never short
 returns_verdict : (f m : List ℕ) (n t a x : ℕ) → (exec f returns n t a x m).verdict ≡ Short → ⊥
 unfolding exec effect
-returns_verdict f m zero t a x e = let z : ◌≡◌ {A = ℕ} 0 1 = cc in omega arith
-returns_verdict f m (suc zero) t a x e = let z : ◌≡◌ {A = ℕ} 0 1 = cc in omega arith
-returns_verdict f m (suc (suc n)) t a x e = let z : ◌≡◌ {A = ℕ} 0 1 = cc in omega arith
+returns_verdict f m (suc (suc n)) t a x e = cc
+returns_verdict f m n t a x e = cc
 
 finish_long : (f : List ℕ) (o : Ending) (r : Outcome) → Uncut o → Agrees memory (exec f returns) (redirect Failure 1 (redirect Success 0 o)) r → r.verdict ≡ Short → ⊥
 finish_long f (fell n c a x) r u e k = returns_verdict f memory n c a x (rw e at k)
@@ -140,11 +128,6 @@ finish_long f (cut c) r u e k = u
 
 -- ---- programs
 
-net_small : (L : LinkType) → net_offset L ≤ 16
-net_small Ethernet = omega arith
-net_small RawIp = omega arith
-net_small LinuxSll = omega arith
-
 program_stands : (N : ℕ) → N < 2 ^ 32 → (b : Block) → Made N 0 b → far (finished b) ≡ false → AllStand (program_of b)
 unfolding finished
 program_stands N n b h e =
@@ -153,7 +136,7 @@ program_stands N n b h e =
 shaped_sound : (L : LinkType) {n : ℕ} (b : Block) → n ≤ 3944 → Shaped (net_offset L + 64) n b → far (finished b) ≡ false → Sound L (program_of b)
 shaped_sound L b h s e =
     let p = program_of b in
-    let a = program_stands (net_offset L + 64) (omega (arith, net_small L)) b s.made e in
+    let a = program_stands (net_offset L + 64) (omega (arith, start_small L)) b s.made e in
     record {
       least = omega (arith, length_program b);
       most = omega (arith, length_program b);

@@ -11,7 +11,7 @@ use Rattle.vm.specs.declared.Verdict.TheVariants.{Accepted, Dropped, Short}
 use Rattle.vm.specs.declared.Outcome.{Outcome}
 use Rattle.vm.specs.Machine.{effect, exec, inner}
 use Rattle.ast.specs.declared.LinkType.{LinkType}
-use Rattle.ast.specs.declared.LinkType.TheVariants.{Ethernet, RawIp, LinuxSll}
+use Rattle.ast.specs.declared.LinkType.TheVariants.{RawIp}
 use Rattle.ast.specs.Tree.{Expr}
 use Rattle.ast.proofs.Proper.{Proper}
 use Rattle.direct.specs.Reading.{kind, reads}
@@ -45,14 +45,12 @@ block_tells f S G D b P h g = ending_tells f S D P (run f b 0 0 0 0) (inner (pro
 
 entry_holds : (L : LinkType) (f : List ℕ) (x : ℕ) → Holds L f (entry_facts L) x
 unfolding kind
-entry_holds Ethernet f x = record { ethertype = tt; ip4 = tt; ip6 = tt; ports = tt }
 entry_holds RawIp f x = record { ethertype = refl; ip4 = tt; ip6 = tt; ports = tt }
-entry_holds LinuxSll f x = record { ethertype = tt; ip4 = tt; ip6 = tt; ports = tt }
+entry_holds L f x = record { ethertype = tt; ip4 = tt; ip6 = tt; ports = tt }
 
 entry_raw : (L : LinkType) → Raw L (entry_facts L).ethertype
-entry_raw Ethernet = tt
 entry_raw RawIp = refl
-entry_raw LinuxSll = tt
+entry_raw L = tt
 
 -- the program of a tree, run over a frame, is short or gives the direct reading
 pub compile_tells : (L : LinkType) (t : Expr) → Proper t → (f : List ℕ) → AreBytes f → All (λ p. Tells (reads L f t) (inner p f).verdict) (compile L t)
