@@ -16,7 +16,6 @@ use Rattle.typing.specs.declared.Fault.{Fault}
 use Rattle.typing.specs.declared.Word.{Word}
 use Rattle.typing.specs.Words.{word_of, up_to, Placed, known, spotted, words_from}
 use Rattle.typing.specs.Typed.{fault}
-use Rattle.typing.proofs.Answers.{never}
 use Rattle.words.proofs.Scans.{drop_all, drop_here, take_up_to}
 use Rattle.lines.specs.declared.Item.{Item}
 use Rattle.lines.specs.declared.Move.{Move}
@@ -153,14 +152,14 @@ module _ {line : List ℕ} {l : List Item} {s : Sum} {at : ℕ} {whole : Reading
         where
           by : (m : Option Move) → move s w ≡ m → Err f ≡ taken m at → j ≡ stored_by m (ready w s) (ready_items w s l) → reading (Err f) j ≡ whole
           by None q h k = (let z : f ≡ fault Unfinished at = cc in ap₂ (λ x y. reading (Err x) y) z k) ∙ (sym (word_stopped (length line) at s l (words_from false (at + n) (drop (at + n) line)) w q) ∙ known_split)
-          by (Some m) q h k = never cc
+          by (Some m) q h k = cc
 
       pub goes_done : (u : Unit {0}) (s' : Sum) (j : List Item) → Ok u ≡ taken (move s w) at → s' ≡ moved_by (move s w) (ready w s)
           → j ≡ stored_by (move s w) (ready w s) (ready_items w s l) → Goes line s' j (at + n) whole
       goes_done u s' j h p k = by (move s w) refl h p k
         where
           by : (m : Option Move) → move s w ≡ m → Ok u ≡ taken m at → s' ≡ moved_by m (ready w s) → j ≡ stored_by m (ready w s) (ready_items w s l) → Goes line s' j (at + n) whole
-          by None q h p k = never cc
+          by None q h p k = cc
           by (Some m) q h p k =
               rw (p, k) (record {
                 inside = inside;

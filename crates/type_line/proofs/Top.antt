@@ -18,7 +18,7 @@ use Rattle.typing.specs.Finds.{Found, phrase, unknown, unfinished}
 use Rattle.typing.specs.Parse.{start, scan}
 use Rattle.error.specs.Answer.{Out}
 use Rattle.typing.specs.Typed.{Typed, placed, rejected, within, sized, linked, typed}
-use Rattle.typing.proofs.Answers.{never, true-within}
+use Rattle.typing.proofs.Answers.{true-within}
 use Rattle.typing.proofs.Passes.{file_length}
 use Rattle.lines.specs.declared.Item.{Item}
 use Rattle.lines.specs.declared.Size.{Size}
@@ -35,7 +35,7 @@ use Rattle.type_line.proofs.Whole.{phrase_count, first_items, in_order, reads_li
 module _ (l₀ : List Item) where
   -- a refusal of the reading is the definition's
   found_fault : (link : ℕ) (f : Found) (r : Reading) (e : Fault) → Follows l₀ f r → r.answer ≡ Err e → sized link f ≡ rejected e.refusal e.place
-  found_fault link (phrase p) r e h k = never (let z = ap (λ x. x.answer) h in cc)
+  found_fault link (phrase p) r e h k = let z = ap (λ x. x.answer) h in cc
   found_fault link (unknown j) r e h k = let z : fault UnknownWord j ≡ e = cc in ap (λ x. rejected x.refusal x.place) z
   found_fault link (unfinished j) r e h k = let z : fault Unfinished j ≡ e = cc in ap (λ x. rejected x.refusal x.place) z
 
@@ -50,8 +50,8 @@ module _ (l₀ : List Item) where
   found_whole (phrase p) r z h e =
       let k : size (length (phrase_items 0 p)) (depth p) ≡ z = (let y = ap (λ x. x.answer) h in cc) in
       record { the_phrase = p; is = refl; counts = sym (ap (λ (x : Size). x.records) k) ∙ phrase_count 0 p; deep = sym (ap (λ (x : Size). x.deepest) k); items = ap (λ x. x.items) h }
-  found_whole (unknown j) r z h e = never cc
-  found_whole (unfinished j) r z h e = never cc
+  found_whole (unknown j) r z h e = cc
+  found_whole (unfinished j) r z h e = cc
 
 -- ---- the bytes
 
@@ -117,7 +117,7 @@ unfolding typed
 typed_strange link line e h = by (link_of link) h
   where
     by : (o : Out LinkType) → F.placeless o ≡ Err e → linked o (sized link (scan (length line) start (line_words line))) ≡ rejected e.refusal e.place
-    by (Ok l) h = never cc
+    by (Ok l) h = cc
     by (Err r) h = let z : fault r 0 ≡ e = cc in ap (λ x. rejected x.refusal x.place) z
 
 pub link_known : (link : ℕ) (l : LinkType) → F.placeless (link_of link) ≡ Ok l → (l : LinkType) × (link_of link ≡ Ok l)
@@ -125,7 +125,7 @@ link_known link l h = by (link_of link) refl h
   where
     by : (o : Out LinkType) → link_of link ≡ o → F.placeless o ≡ Ok l → (l : LinkType) × (link_of link ≡ Ok l)
     by (Ok k) e h = (k, e)
-    by (Err r) e h = never cc
+    by (Err r) e h = cc
 
 typed_as : (link : ℕ) (line : List ℕ) (f : Found) → (l : LinkType) × (link_of link ≡ Ok l) → scan (length line) start (line_words line) ≡ f → typed link line ≡ sized link f
 unfolding typed

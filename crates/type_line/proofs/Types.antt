@@ -34,7 +34,7 @@ use Rattle.typing.specs.Phrase.{Phrase, phrase_bytes, record_count, Within, says
 use Rattle.typing.specs.Finds.{Found, phrase, unknown, unfinished, Finds, whole}
 use Rattle.typing.specs.Parse.{start, scan}
 use Rattle.typing.specs.Typed.{Typed, placed, rejected, within, sized, linked, typed}
-use Rattle.typing.proofs.Answers.{never, found-words, typed-of, typed-found, one-finding, within-true, true-within}
+use Rattle.typing.proofs.Answers.{found-words, typed-of, typed-found, one-finding, within-true, true-within}
 use Rattle.typing.proofs.Passes.{file_length, file_header_lem, passes, file_says}
 use Rattle.typing.proofs.Spaces.{space_parts, one_word}
 use Rattle.typing.proofs.Numerals as N
@@ -79,21 +79,21 @@ same_refusal e = ap (λ (f : Fault). f.refusal) (same_fault e)
 module _ (link : ℕ) (k : ℕ) where
   is_unknown : (f : Found) → (sized link f).answer ≡ Err (fault UnknownWord k) → f ≡ unknown k
   is_unknown (unknown j) e = ap (λ (f : Fault). unknown f.place) (same_fault e)
-  is_unknown (unfinished j) e = never (let z = same_refusal e in cc)
+  is_unknown (unfinished j) e = let z = same_refusal e in cc
   is_unknown (phrase p) e = by (within p) e
     where
       by : (b : Bool) → (cond b (placed (file_of link p)) (rejected TooLarge 0)).answer ≡ Err (fault UnknownWord k) → phrase p ≡ unknown k
-      by true h = never cc
-      by false h = never (let z = same_refusal h in cc)
+      by true h = cc
+      by false h = let z = same_refusal h in cc
 
   is_unfinished : (f : Found) → (sized link f).answer ≡ Err (fault Unfinished k) → f ≡ unfinished k
-  is_unfinished (unknown j) e = never (let z = same_refusal e in cc)
+  is_unfinished (unknown j) e = let z = same_refusal e in cc
   is_unfinished (unfinished j) e = ap (λ (f : Fault). unfinished f.place) (same_fault e)
   is_unfinished (phrase p) e = by (within p) e
     where
       by : (b : Bool) → (cond b (placed (file_of link p)) (rejected TooLarge 0)).answer ≡ Err (fault Unfinished k) → phrase p ≡ unfinished k
-      by true h = never cc
-      by false h = never (let z = same_refusal h in cc)
+      by true h = cc
+      by false h = let z = same_refusal h in cc
 
 -- a file, or 18, is the answer to a whole phrase
 module _ (link : ℕ) where
@@ -101,18 +101,18 @@ module _ (link : ℕ) where
   Phrased f = (p : Phrase) × (f ≡ phrase p) × Within p
 
   is_file : (n : ℕ) (f : Found) → (sized link f).answer ≡ Ok n → Phrased f
-  is_file n (unknown j) e = never cc
-  is_file n (unfinished j) e = never cc
+  is_file n (unknown j) e = cc
+  is_file n (unfinished j) e = cc
   is_file n (phrase p) e = by (within p) refl e
     where
       by : (b : Bool) → within p ≡ b → (cond b (placed (file_of link p)) (rejected TooLarge 0)).answer ≡ Ok n → Phrased (phrase p)
       by true w h = (p, refl, true-within p w)
-      by false w h = never cc
+      by false w h = cc
 
   is_large : (f : Found) → (sized link f).answer ≡ Err (fault TooLarge 0) → (p : Phrase) × (f ≡ phrase p) × (¬ Within p)
-  is_large (unknown j) e = never (let z = same_refusal e in cc)
-  is_large (unfinished j) e = never (let z = same_refusal e in cc)
-  is_large (phrase p) e = (p, refl, λ w. never (let z = within-true p w in let y = ap (λ b. (cond b (placed (file_of link p)) (rejected TooLarge 0)).answer) (sym z) ∙ e in cc))
+  is_large (unknown j) e = let z = same_refusal e in cc
+  is_large (unfinished j) e = let z = same_refusal e in cc
+  is_large (phrase p) e = (p, refl, λ w. (let z = within-true p w in let y = ap (λ b. (cond b (placed (file_of link p)) (rejected TooLarge 0)).answer) (sym z) ∙ e in cc))
 
 within_false : (p : Phrase) → (¬ Within p) → within p ≡ false
 within_false p h = by (within p) refl
@@ -135,7 +135,7 @@ rejects (Ok p) lent r h e = by (too_short lent p) e
   where
     by : (b : Bool) → (cond b (Build.rejected lent ShortBuffer) (Build.placed lent p)).answer ≡ Err r → Numbered (5 ∷ 6 ∷ 7 ∷ 8 ∷ 9 ∷ 15 ∷ []) r
     by true g = let same : ShortBuffer ≡ r = cc in rw (← same) tt
-    by false g = never cc
+    by false g = cc
 
 -- ---- of calls that keep their promises
 
@@ -243,7 +243,7 @@ module _ (link : ℕ) (r : Refusal) (i : ℕ) where
   sized_zeroes (phrase p) h = by (within p) h
     where
       by : (b : Bool) → (cond b (placed (file_of link p)) (rejected TooLarge 0)).answer ≡ Err (fault r i) → (cond b (placed (file_of link p)) (rejected TooLarge 0)).tree ≡ replicate 3080 0
-      by true g = never cc
+      by true g = cc
       by false g = refl
 
   linked_zeroes : (o : Out LinkType) (f : Found) → (linked o (sized link f)).answer ≡ Err (fault r i) → (linked o (sized link f)).tree ≡ replicate 3080 0

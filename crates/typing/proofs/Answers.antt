@@ -1,15 +1,16 @@
 -- What `scan` finds is what the grammar says, and nothing else: every line has exactly one answer.
-use Rattle.std.specs.Prelude.{Option, None, Some}
+use Rattle.std.specs.Prelude.{Option, None, Some, option_and_then}
 use Rattle.std.specs.Prelude.{Ok}
 use Prim.Native.Nat.{ℕ}
 use mathlib.Core.Logic.{◌↔◌}
 use mathlib.Core.Path.{◌≡◌, refl, sym, ap, ◌∙◌}
 use mathlib.Core.List.{List, [], ◌∷◌, ◌++◌, append_assoc, append-nil}
-use mathlib.Core.Bool.{Bool, true, false, ◌&&◌}
+use mathlib.Core.Bool.{true}
 use native.Mathlib.Omega.{arith}
 use lib.ListN.{length}
 use lib.Dec.{leb}
 use borrow.Author.Tests.{leb-true, le-leb}
+use Rattle.std.proofs.lemmas.Bool.{and_parts}
 use Rattle.ast.specs.declared.LinkType.{LinkType}
 use Rattle.ast.specs.File.{link_of}
 use Rattle.typing.specs.Words.{Word, Placed, known, strange, line_words}
@@ -19,66 +20,45 @@ use Rattle.typing.specs.Parse.{State, step, final, start, ends, scan}
 use Rattle.typing.specs.Typed.{within, sized, typed}
 use Rattle.typing.proofs.Grammar.{walk, parse, parses, before, stepped, start_words, begins, finished}
 
-pub never : {A : Type 0} → ◌≡◌ {A = ℕ} 0 1 → A
-never e = absurd (omega arith)
-
 -- ---- walks
 
-walk-next : (st : State) (w : Word) (st' : State) (ws : List Word) → step st w ≡ Some st' → walk st (w ∷ ws) ≡ walk st' ws
+-- over some words, and then over others
+walk-append : (ws rest : List Word) (st : State) → walk st (ws ++ rest) ≡ option_and_then (λ s. walk s rest) (walk st ws)
 unfolding walk
-walk-next st w st' ws e = rw (e, walk)
-
-walk-stops : (st : State) (w : Word) (ws : List Word) → step st w ≡ None → walk st (w ∷ ws) ≡ None
-unfolding walk
-walk-stops st w ws e = rw (e, walk)
-
-parse-next : (st : State) (w : Word) (st' : State) (ws : List Word) → step st w ≡ Some st' → parse st (w ∷ ws) ≡ parse st' ws
-unfolding parse
-parse-next st w st' ws e = rw (e, parse)
-
-parse-stops : (st : State) (w : Word) (ws : List Word) → step st w ≡ None → parse st (w ∷ ws) ≡ None
-unfolding parse
-parse-stops st w ws e = rw (e, parse)
-
--- a walk over one word more begins with a step
-walk-cases : (o : Option State) (ws : List Word) (st' : State) (st : State) (w : Word) → step st w ≡ o → walk st (w ∷ ws) ≡ Some st'
-    → (st₁ : State) × (step st w ≡ Some st₁) × (walk st₁ ws ≡ Some st')
-walk-cases None ws st' st w e h = never (let z = walk-stops st w ws e in cc)
-walk-cases (Some st₁) ws st' st w e h = (st₁, e, sym (walk-next st w st₁ ws e) ∙ h)
+walk-append [] rest st = refl
+walk-append (w ∷ ws) rest st = by (step st w) (walk-append ws rest)
+  where
+    by : (o : Option State) → ((s : State) → walk s (ws ++ rest) ≡ option_and_then (λ r. walk r rest) (walk s ws))
+        → option_and_then (λ s. walk s (ws ++ rest)) o ≡ option_and_then (λ r. walk r rest) (option_and_then (λ s. walk s ws) o)
+    by None ih = refl
+    by (Some s) ih = ih s
 
 walk-sound : (ws : List Word) (st st' : State) → walk st ws ≡ Some st' → before st' ≡ before st ++ ws
 unfolding walk
 walk-sound [] st st' e = let z : st ≡ st' = cc in rw (← z) (sym (append-nil (before st)))
-walk-sound (w ∷ ws) st st' e =
-    let k = walk-cases (step st w) ws st' st w refl e in
-    walk-sound ws k.0 st' k.2 ∙ (ap (λ vs. vs ++ ws) (stepped st w k.0 k.1) ∙ append_assoc (before st) (w ∷ []) ws)
+walk-sound (w ∷ ws) st st' e = by (step st w) refl e (walk-sound ws)
+  where
+    by : (o : Option State) → step st w ≡ o → option_and_then (λ s. walk s ws) o ≡ Some st'
+        → ((s s' : State) → walk s ws ≡ Some s' → before s' ≡ before s ++ ws) → before st' ≡ before st ++ (w ∷ ws)
+    by None f h ih = cc
+    by (Some s) f h ih = ih s st' h ∙ (ap (λ vs. vs ++ ws) (stepped st w s f) ∙ append_assoc (before st) (w ∷ []) ws)
 
 walk-parse : (ws rest : List Word) (st st' : State) → walk st ws ≡ Some st' → parse st (ws ++ rest) ≡ parse st' rest
-unfolding walk
-walk-parse [] rest st st' e = let z : st ≡ st' = cc in ap (λ s. parse s rest) z
-walk-parse (w ∷ ws) rest st st' e =
-    let k = walk-cases (step st w) ws st' st w refl e in
-    parse-next st w k.0 (ws ++ rest) k.1 ∙ walk-parse ws rest k.0 st' k.2
+unfolding parse
+walk-parse ws rest st st' e = rw (walk-append ws rest st, e)
 
 walk-snoc : (ws : List Word) (w : Word) (st st₁ st' : State) → walk st ws ≡ Some st₁ → step st₁ w ≡ Some st' → walk st (ws ++ (w ∷ [])) ≡ Some st'
 unfolding walk
-walk-snoc [] w st st₁ st' e f = let z : st ≡ st₁ = cc in walk-next st w st' [] (rw z f)
-walk-snoc (v ∷ ws) w st st₁ st' e f =
-    let k = walk-cases (step st v) ws st₁ st v refl e in
-    walk-next st v k.0 (ws ++ (w ∷ [])) k.1 ∙ walk-snoc ws w k.0 st₁ st' k.2 f
+walk-snoc ws w st st₁ st' e f = rw (walk-append ws (w ∷ []) st, e, f)
 
 -- words that are read to a phrase are walked over
-walked_by : (ws rest : List Word) (st : State) (w : Word) (p : Phrase) (o : Option State) → step st w ≡ o → parse st (w ∷ (ws ++ rest)) ≡ Some p
-    → ((st₁ : State) → parse st₁ (ws ++ rest) ≡ Some p → (st' : State) × (walk st₁ ws ≡ Some st')) → (st' : State) × (walk st (w ∷ ws) ≡ Some st')
-walked_by ws rest st w p None f e ih = never (let z = parse-stops st w (ws ++ rest) f in cc)
-walked_by ws rest st w p (Some st₁) f e ih =
-    let k = ih st₁ (sym (parse-next st w st₁ (ws ++ rest) f) ∙ e) in
-    (k.0, walk-next st w st₁ ws f ∙ k.1)
-
 walked : (ws rest : List Word) (st : State) (p : Phrase) → parse st (ws ++ rest) ≡ Some p → (st' : State) × (walk st ws ≡ Some st')
-unfolding walk
-walked [] rest st p e = (st, refl)
-walked (w ∷ ws) rest st p e = walked_by ws rest st w p (step st w) refl e (λ st₁ h. walked ws rest st₁ p h)
+unfolding parse
+walked ws rest st p e = by (walk st ws) refl (rw (walk-append ws rest st) at e)
+  where
+    by : (o : Option State) → walk st ws ≡ o → option_and_then final (option_and_then (λ s. walk s rest) o) ≡ Some p → (st' : State) × (walk st ws ≡ Some st')
+    by None f h = cc
+    by (Some s) f h = (s, f)
 
 -- ---- what has been read begins a line that the rules allow, and what does not is not read
 
@@ -96,13 +76,14 @@ goes_on : (ws rest : List Word) (st : State) (p : Phrase) → walk start ws ≡ 
 goes_on ws rest st p e h = sym (walk-parse ws rest start st e) ∙ (ap (parse start) (sym h) ∙ parses p)
 
 None-goes-on : (ws : List Word) (w : Word) (st : State) → walk start ws ≡ Some st → step st w ≡ None → ¬ Begins (ws ++ (w ∷ []))
+unfolding parse walk
 None-goes-on ws w st e f b =
-    never (let z = goes_on ws (w ∷ b.0) st b.1.0 e (b.1.1 ∙ append_assoc ws (w ∷ []) b.0) in
-    let y = parse-stops st w b.0 f in cc)
+    let z = goes_on ws (w ∷ b.0) st b.1.0 e (b.1.1 ∙ append_assoc ws (w ∷ []) b.0) in
+    let y : None ≡ Some b.1.0 = rw f at z in cc
 
 None-ends : (ws : List Word) (st : State) → walk start ws ≡ Some st → final st ≡ None → ¬ Allowed ws
-unfolding parse
-None-ends ws st e f a = never (let z : final st ≡ Some a.0 = goes_on ws [] st a.0 e (a.1 ∙ sym (append-nil ws)) in cc)
+unfolding parse walk
+None-ends ws st e f a = (let z : final st ≡ Some a.0 = goes_on ws [] st a.0 e (a.1 ∙ sym (append-nil ws)) in cc)
 
 -- ---- what is found is what the grammar says
 
@@ -141,20 +122,19 @@ scan-found end (known k w ∷ ps) st ss e =
 
 -- ---- and nothing else is
 
-scan-next : (end k : ℕ) (w : Word) (ps : List Placed) (st st' : State) → step st w ≡ Some st' → scan end st (known k w ∷ ps) ≡ scan end st' ps
-unfolding scan
-scan-next end k w ps st st' e = rw (e, scan)
-
 scan-stops : (end k : ℕ) (w : Word) (ps : List Placed) (st : State) → step st w ≡ None → scan end st (known k w ∷ ps) ≡ unfinished k
 unfolding scan
 scan-stops end k w ps st e = rw (e, scan)
 
 scan-walk : (end : ℕ) (ss : List Spot) (ps : List Placed) (st st' : State) → walk st (words ss) ≡ Some st' → scan end st (spots ss ++ ps) ≡ scan end st' ps
-unfolding walk
+unfolding walk scan
 scan-walk end [] ps st st' e = let z : st ≡ st' = cc in ap (λ s. scan end s ps) z
-scan-walk end (s ∷ ss) ps st st' e =
-    let k = walk-cases (step st s.word) (words ss) st' st s.word refl e in
-    scan-next end s.place s.word (spots ss ++ ps) st k.0 k.1 ∙ scan-walk end ss ps k.0 st' k.2
+scan-walk end (s ∷ ss) ps st st' e = by (step st s.word) e (λ r. scan-walk end ss ps r st')
+  where
+    by : (o : Option State) → option_and_then (λ r. walk r (words ss)) o ≡ Some st' → ((r : State) → walk r (words ss) ≡ Some st' → scan end r (spots ss ++ ps) ≡ scan end st' ps)
+        → elim o as (λ _. Found) [ None ↦ unfinished s.place | Some r ↦ scan end r (spots ss ++ ps) ] ≡ scan end st' ps
+    by None h ih = cc
+    by (Some r) h ih = ih r h
 
 stops-or : (ss : List Spot) (w : Word) (st : State) → walk start (words ss) ≡ Some st → ¬ Begins (words ss ++ (w ∷ [])) → (o : Option State) → step st w ≡ o → step st w ≡ None
 stops-or ss w st e no_more None f = f
@@ -165,7 +145,7 @@ ends-or ss st e never_ends None f = f
 ends-or ss st e never_ends (Some p) f = absurd (never_ends (p, finished st p f ∙ reached (words ss) st e))
 
 goes_last : (ws : List Word) (st : State) (p : Phrase) → walk start ws ≡ Some st → words_of p ≡ ws → final st ≡ Some p
-unfolding parse
+unfolding parse walk
 goes_last ws st p h w = goes_on ws [] st p h (w ∙ sym (append-nil ws))
 
 found-scan : (end : ℕ) (all : List Placed) (f : Found) → Finds end all f → scan end start all ≡ f
@@ -210,21 +190,17 @@ typed-found link line = found (length line) (line_words line)
 -- the words of a phrase that is found
 pub found-words : {end : ℕ} {all : List Placed} {p : Phrase} (f : Found) → Finds end all f → f ≡ phrase p
     → (ss : List Spot) × (all ≡ spots ss) × (words_of p ≡ words ss)
-found-words _ (not_known ss k rest e b) h = never cc
-found-words _ (cannot_follow ss k w rest e b n) h = never cc
-found-words _ (not_ended ss e b n) h = never cc
+found-words _ (not_known ss k rest e b) h = cc
+found-words _ (cannot_follow ss k w rest e b n) h = cc
+found-words _ (not_ended ss e b n) h = cc
 found-words {p = p} _ (whole ss q e w) h = let same : q ≡ p = cc in (ss, e, rw same at w)
 
 -- ---- an answer tells what was found
-
-pub both_true : (a b : Bool) → a && b ≡ true → (a ≡ true) × (b ≡ true)
-both_true true b e = (refl, e)
-both_true false b e = never cc
 
 pub within-true : (p : Phrase) → Within p → within p ≡ true
 within-true p h = rw (le-leb (record_count p) 128 h.few, le-leb (depth p) 128 h.flat)
 
 pub true-within : (p : Phrase) → within p ≡ true → Within p
 true-within p e =
-    let k = both_true (leb (record_count p) 128) (leb (depth p) 128) e in
+    let k = and_parts (leb (record_count p) 128) (leb (depth p) 128) e in
     record { few = leb-true (record_count p) 128 k.0; flat = leb-true (depth p) 128 k.1 }

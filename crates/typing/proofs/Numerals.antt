@@ -3,7 +3,7 @@ use Rattle.std.specs.Prelude.{Option, None, Some}
 use Prim.Native.Nat.{ℕ, ◌+◌, ◌*◌, ◌-◌, ◌≤◌}
 use mathlib.Core.Path.{◌≡◌, refl, sym, ap, ap₂, ◌∙◌}
 use mathlib.Core.List.{List, [], ◌∷◌, ◌++◌, append_assoc, append-nil}
-use mathlib.Core.Bool.{Bool, true, false, cond, not, ◌&&◌, ◌||◌}
+use mathlib.Core.Bool.{Bool, true, false, cond, not, ◌&&◌, ◌||◌, or-true}
 use mathlib.Core.Logic.{◌↔◌}
 use native.Mathlib.Omega.{arith}
 use native.Mathlib.Nat.{zero-add}
@@ -11,16 +11,18 @@ use lib.ListN.{length}
 use lib.Dec.{eqb, leb}
 use borrow.Author.Tests.{eqb-true, eqb-false, leb-true, ne_eqb, le-leb}
 use Rattle.bpf.specs.Bytes.{be}
-use Rattle.typing.specs.Words.{Word, name, over, side, host, port, opening, closing, negate, join, address, number}
+use Rattle.bpf.specs.Program.{Each}
+use Rattle.typing.specs.Words.{Word, address, number}
 use Rattle.typing.specs.Words.{Row, keywords, same, keyword, digit, digits, value, empty, decimal, onto, parts, before, octets, four, either, made, word_of}
-use Rattle.typing.proofs.Answers.{never, both_true}
+use Rattle.std.proofs.lemmas.Option.{cond_some}
+use Rattle.std.proofs.lemmas.Bool.{and_parts}
 use Rattle.typing.specs.Numerals.{Decimal, single, longer, PortNumber, Dotted}
 
 -- ---- one digit more
 
 digits_snoc : (s : List ℕ) (c : ℕ) → digits s ≡ true → digit c ≡ true → digits (s ++ (c ∷ [])) ≡ true
 digits_snoc [] c h k = rw k
-digits_snoc (b ∷ s) c h k = let e = both_true (digit b) (digits s) h in rw (e.0, digits_snoc s c e.1 k)
+digits_snoc (b ∷ s) c h k = let e = and_parts (digit b) (digits s) h in rw (e.0, digits_snoc s c e.1 k)
 
 value_snoc : (v : ℕ) (s : List ℕ) (c : ℕ) → value v (s ++ (c ∷ [])) ≡ value v s * 10 + (c - 48)
 value_snoc v [] c = refl
@@ -30,7 +32,7 @@ digit_of : (d : ℕ) → d ≤ 9 → digit (48 + d) ≡ true
 digit_of d h = rw (le-leb 48 (48 + d) (omega arith), le-leb (48 + d) 57 (omega arith))
 
 of_digit : (c : ℕ) → digit c ≡ true → (48 ≤ c) × (c ≤ 57)
-of_digit c h = let e = both_true (leb 48 c) (leb c 57) h in (leb-true 48 c e.0, leb-true c 57 e.1)
+of_digit c h = let e = and_parts (leb 48 c) (leb c 57) h in (leb-true 48 c e.0, leb-true c 57 e.1)
 
 -- ---- what is written is read
 
@@ -52,13 +54,9 @@ shape _ _ (single d h) =
       text = refl;
       all = rw (digit_of d h);
       worth = omega arith;
-      plain = or_true (not (eqb (48 + d) 48));
+      plain = or-true (not (eqb (48 + d) 48));
       lowest = λ k. omega arith;
     }
-  where
-    or_true : (b : Bool) → b || true ≡ true
-    or_true true = refl
-    or_true false = refl
 shape _ _ (longer s v d h one k) =
     let p = shape s v h in
     record {
@@ -84,7 +82,7 @@ written most s v h m =
 onward : (t s : List ℕ) (v : ℕ) → Decimal s v → 1 ≤ v → digits t ≡ true → Decimal (s ++ t) (value v t)
 onward [] s v h one k = rw (append-nil s) h
 onward (c ∷ t) s v h one k =
-    let e = both_true (digit c) (digits t) k in
+    let e = and_parts (digit c) (digits t) k in
     let l = of_digit c e.0 in
     let z : 48 + (c - 48) ≡ c = omega arith in
     let g : Decimal (s ++ (c ∷ [])) (v * 10 + (c - 48)) = rw z at (longer s v (c - 48) h one (omega arith)) in
@@ -94,26 +92,22 @@ alone : (c : ℕ) → digit c ≡ true → Decimal (c ∷ []) (c - 48)
 alone c h = let l = of_digit c h in let z : 48 + (c - 48) ≡ c = omega arith in rw z at (single (c - 48) (omega arith))
 
 spelled : (c : ℕ) (s : List ℕ) → digits (c ∷ s) ≡ true → not (eqb c 48) || empty s ≡ true → Decimal (c ∷ s) (value 0 (c ∷ s))
-spelled c [] h k = rw (zero-add (c - 48)) (alone c (both_true (digit c) true h).0)
+spelled c [] h k = rw (zero-add (c - 48)) (alone c (and_parts (digit c) true h).0)
 spelled c (d ∷ s) h k =
-    let e = both_true (digit c) (digits (d ∷ s)) h in
+    let e = and_parts (digit c) (digits (d ∷ s)) h in
     let l = of_digit c e.0 in
     rw (zero-add (c - 48)) (onward (d ∷ s) (c ∷ []) (c - 48) (alone c e.0) (above (eqb c 48) refl k) e.1)
   where
     above : (b : Bool) → eqb c 48 ≡ b → not b || false ≡ true → 1 ≤ c - 48
-    above true w z = never cc
-    above false w z = omega (arith, (of_digit c (both_true (digit c) (digits (d ∷ s)) h).0).0, eqb-false c 48 w)
-
-told : (b : Bool) (x v : ℕ) → cond b (Some x) None ≡ Some v → (b ≡ true) × (x ≡ v)
-told true x v e = (refl, cc)
-told false x v e = never cc
+    above true w z = cc
+    above false w z = omega (arith, (of_digit c (and_parts (digit c) (digits (d ∷ s)) h).0).0, eqb-false c 48 w)
 
 pub read : (most : ℕ) (s : List ℕ) (v : ℕ) → decimal most s ≡ Some v → Decimal s v × (v ≤ most)
-read most [] v e = never cc
+read most [] v e = cc
 read most (c ∷ s) v e =
-    let k = told (digits (c ∷ s) && ((not (eqb c 48) || empty s) && leb (value 0 (c ∷ s)) most)) (value 0 (c ∷ s)) v e in
-    let a = both_true (digits (c ∷ s)) _ k.0 in
-    let b = both_true (not (eqb c 48) || empty s) (leb (value 0 (c ∷ s)) most) a.1 in
+    let k = cond_some (digits (c ∷ s) && ((not (eqb c 48) || empty s) && leb (value 0 (c ∷ s)) most)) (value 0 (c ∷ s)) v e in
+    let a = and_parts (digits (c ∷ s)) _ k.0 in
+    let b = and_parts (not (eqb c 48) || empty s) (leb (value 0 (c ∷ s)) most) a.1 in
     (rw k.1 at (spelled c s a.0 b.0), rw k.1 at (leb-true (value 0 (c ∷ s)) most b.1))
 
 -- ---- what stands between the dots
@@ -165,11 +159,11 @@ no_dot c h = ne_eqb c 46 (λ e. omega (arith, (of_digit c h).0))
 
 pub parts_last : (s : List ℕ) → digits s ≡ true → parts s ≡ s ∷ []
 parts_last [] h = refl
-parts_last (c ∷ s) h = let e = both_true (digit c) (digits s) h in rw (no_dot c e.0, parts_last s e.1)
+parts_last (c ∷ s) h = let e = and_parts (digit c) (digits s) h in rw (no_dot c e.0, parts_last s e.1)
 
 parts_next : (s t : List ℕ) → digits s ≡ true → parts (s ++ (46 ∷ t)) ≡ s ∷ parts t
 parts_next [] t h = refl
-parts_next (c ∷ s) t h = let e = both_true (digit c) (digits s) h in rw (no_dot c e.0, parts_next s t e.1)
+parts_next (c ∷ s) t h = let e = and_parts (digit c) (digits s) h in rw (no_dot c e.0, parts_next s t e.1)
 
 pub all_digits : (s : List ℕ) (v : ℕ) → Decimal s v → digits s ≡ true
 all_digits s v h = (shape s v h).all
@@ -198,16 +192,12 @@ octets_read (p ∷ ps) bs e = by (decimal 255 p) (octets ps) (λ b h. read 255 p
   where
     by : (o : Option ℕ) (os : Option (List ℕ)) → ((b : ℕ) → o ≡ Some b → Decimal p b × (b ≤ 255)) → ((cs : List ℕ) → os ≡ Some cs → Read ps cs)
         → before o os ≡ Some bs → Read (p ∷ ps) bs
-    by None os h k w = never cc
-    by (Some b) None h k w = never cc
+    by None os h k w = cc
+    by (Some b) None h k w = cc
     by (Some b) (Some cs) h k w = let z : b ∷ cs ≡ bs = cc in rw (← z) (h b refl, k cs refl)
 
 four_dotted : (ps : List (List ℕ)) (bs : List ℕ) → Read ps bs → length bs ≡ 4 → Dotted (dotted ps) (be 4 0 bs)
 unfolding Read dotted be
-four_dotted ps [] h k = absurd (omega arith)
-four_dotted ps (a ∷ []) h k = absurd (omega arith)
-four_dotted ps (a ∷ b ∷ []) h k = absurd (omega arith)
-four_dotted ps (a ∷ b ∷ c ∷ []) h k = absurd (omega arith)
 four_dotted [] (a ∷ b ∷ c ∷ d ∷ []) h k = absurd h
 four_dotted (p ∷ []) (a ∷ b ∷ c ∷ d ∷ []) h k = absurd h.1
 four_dotted (p ∷ q ∷ []) (a ∷ b ∷ c ∷ d ∷ []) h k = absurd h.1.1
@@ -230,39 +220,30 @@ four_dotted (p ∷ q ∷ r ∷ t ∷ []) (a ∷ b ∷ c ∷ d ∷ []) h k =
       worth = omega arith;
     }
 four_dotted (p ∷ q ∷ r ∷ t ∷ u ∷ ps) (a ∷ b ∷ c ∷ d ∷ []) h k = absurd h.1.1.1.1
-four_dotted ps (a ∷ b ∷ c ∷ d ∷ e ∷ bs) h k = absurd (omega arith)
+four_dotted ps bs h k = absurd (omega arith)
 
 address_read : (s : List ℕ) (v : ℕ) → four (octets (parts s)) ≡ Some v → Dotted s v
 address_read s v e = by (octets (parts s)) refl e
   where
     by : (o : Option (List ℕ)) → octets (parts s) ≡ o → four o ≡ Some v → Dotted s v
-    by None w h = never cc
+    by None w h = cc
     by (Some bs) w h =
-        let k = told (eqb (length bs) 4) (be 4 0 bs) v h in
+        let k = cond_some (eqb (length bs) 4) (be 4 0 bs) v h in
         rw (parts_dotted s, k.1) at (four_dotted (parts s) bs (octets_read (parts s) bs w) (eqb-true (length bs) 4 k.0))
 
 -- ---- words
 
 Plain : Word → Type 0
-Plain (name n) = Unit {0}
-Plain (over t) = Unit {0}
-Plain (side s) = Unit {0}
-Plain host = Unit {0}
-Plain port = Unit {0}
-Plain opening = Unit {0}
-Plain closing = Unit {0}
-Plain negate = Unit {0}
-Plain (join j) = Unit {0}
 Plain (address a) = ⊥
 Plain (number n) = ⊥
+Plain w = Unit {0}
 
 PlainRows : List Row → Type 0
-PlainRows [] = Unit {0}
-PlainRows (r ∷ rs) = Plain r.word × PlainRows rs
+PlainRows = Each (λ r. Plain r.word)
 
 keyword_plain : (rs : List Row) (s : List ℕ) (w : Word) → PlainRows rs → keyword rs s ≡ Some w → Plain w
 unfolding PlainRows
-keyword_plain [] s w h e = never cc
+keyword_plain [] s w h e = cc
 keyword_plain (r ∷ rs) s w h e = by (same r.text s) (keyword_plain rs s w h.1) e
   where
     by : (b : Bool) → (keyword rs s ≡ Some w → Plain w) → cond b (Some r.word) (keyword rs s) ≡ Some w → Plain w
@@ -282,7 +263,7 @@ keyword_none c s h =
 starts_none : (s t : List ℕ) (v : ℕ) → Decimal s v → keyword keywords (s ++ t) ≡ None
 starts_none s t v h =
     let p = shape s v h in
-    rw p.text (keyword_none p.first (p.rest ++ t) (both_true (digit p.first) (digits p.rest) (rw p.text at p.all)).0)
+    rw p.text (keyword_none p.first (p.rest ++ t) (and_parts (digit p.first) (digits p.rest) (rw p.text at p.all)).0)
 
 -- one number alone is no address
 alone_none : (s : List ℕ) → digits s ≡ true → four (octets (parts s)) ≡ None
@@ -298,24 +279,20 @@ Chosen k a n = either k (either (made address a) (made number n))
 
 is_address : (k : Option Word) (a n : Option ℕ) (v : ℕ) → ((w : Word) → k ≡ Some w → Plain w) → Chosen k a n ≡ Some (address v) → a ≡ Some v
 unfolding Plain Chosen
-is_address None None None v h e = never cc
-is_address None None (Some n) v h e = never cc
-is_address None (Some a) n v h e = cc
 is_address (Some w) a n v h e = absurd (h (address v) e)
+is_address None None (Some n) v h e = cc
+is_address None a n v h e = cc
 
 is_number : (k : Option Word) (a n : Option ℕ) (v : ℕ) → ((w : Word) → k ≡ Some w → Plain w) → Chosen k a n ≡ Some (number v) → n ≡ Some v
 unfolding Plain Chosen
-is_number None None None v h e = never cc
-is_number None None (Some n) v h e = cc
-is_number None (Some a) n v h e = never cc
 is_number (Some w) a n v h e = absurd (h (number v) e)
+is_number None None (Some n) v h e = cc
+is_number None a n v h e = cc
 
 is_none : (k : Option Word) (a n : Option ℕ) → Chosen k a n ≡ None → (k ≡ None) × (a ≡ None) × (n ≡ None)
 unfolding Chosen
 is_none None None None e = (refl, refl, refl)
-is_none None None (Some n) e = never cc
-is_none None (Some a) n e = never cc
-is_none (Some w) a n e = never cc
+is_none k a n e = cc
 
 -- "an address is four decimals up to 255"
 pub addresses : (s : List ℕ) (v : ℕ) → (word_of s ≡ Some (address v)) ↔ Dotted s v
@@ -338,7 +315,7 @@ pub strangers : (s : List ℕ) → (word_of s ≡ None) ↔ ((keyword keywords s
 unfolding word_of Chosen
 strangers s = (
   λ e. let k = is_none (keyword keywords s) (four (octets (parts s))) (decimal 65535 s) e in
-      (k.0, λ v h. never (let z = reads_address s v h in let y = k.1 in cc), λ n h. never (let z = written 65535 s n h.0 h.1 in let y = k.2 in cc)),
+      (k.0, λ v h. let z = reads_address s v h in let y = k.1 in cc, λ n h. let z = written 65535 s n h.0 h.1 in let y = k.2 in cc),
   λ h. by (four (octets (parts s))) (decimal 65535 s) refl refl h.0 h.1 h.2,
 )
   where

@@ -1,5 +1,5 @@
 -- The file of a phrase passes checks 1 to 4, its tree is the phrase's, and read directly it says what the phrase says word by word.
-use Rattle.std.specs.Prelude.{None, Some}
+use Rattle.std.specs.Prelude.{Option, None, Some}
 use Rattle.std.specs.Prelude.{Ok}
 use Prim.Native.Nat.{ℕ, zero, suc, ◌+◌, ◌*◌, ◌/◌, ◌%◌, ◌≤◌}
 use mathlib.Core.Path.{◌≡◌, refl, sym, ap, ap₂, ◌∙◌}
@@ -10,9 +10,12 @@ use native.Mathlib.Nat.{zero-add, add-zero, div-add-mod'}
 use lib.ListN.{length, length-append, get_or, drop}
 use lib.Seq.{get_or-drop, drop-drop, drop_at}
 use borrow.Author.Tests.{le-ltb, ne_eqb, eq-eqb}
+use Rattle.error.specs.Answer.{Out}
 use Rattle.bpf.specs.Bytes.{be, bytes_at, long_frame}
 use Rattle.ast.specs.declared.LinkType.{LinkType}
 use Rattle.ast.specs.declared.Primitive.TheVariants.{Host4, Port}
+use Rattle.ast.specs.declared.Dir.{Dir}
+use Rattle.ast.specs.declared.Proto.{Proto}
 use Rattle.ast.specs.Tree.{Expr, records}
 use Rattle.ast.specs.declared.Node.{Node}
 use Rattle.ast.specs.declared.Node.TheVariants.{AndNode, OrNode, NotNode, LeafNode}
@@ -22,9 +25,9 @@ use Rattle.ast.proofs.Prefix.{prefix}
 use Rattle.ast.proofs.Walk.{Stands, parse_of}
 use Rattle.direct.specs.Reading.{ipv4, reads_proto, reads_primitive, reads}
 use Rattle.direct.specs.Direct.{direct}
-use Rattle.typing.specs.Words.{tcp, udp, sctp, ip, ip6, arp, rarp, icmp, src, dst, Join, and, or}
+use Rattle.typing.specs.Words.{tcp, udp, sctp, icmp, dst, Join, and, or}
 use Rattle.typing.specs.Phrase.{Term, named, bare, hosts, ports, Operand, term, negated, brackets, Phrase, one, two, Within}
-use Rattle.typing.specs.Phrase.{operand_records, record_count, dir_of, maybe_proto, term_leaf, operand_tree, tree_of, joined, join_byte}
+use Rattle.typing.specs.Phrase.{operand_records, record_count, term_leaf, operand_tree, tree_of, joined, join_byte}
 use Rattle.typing.specs.Phrase.{record_bytes, term_record, operand_bytes, phrase_bytes, file_of, term_says, operand_says, says}
 
 -- ---- numbers and records behind a place
@@ -62,31 +65,24 @@ node_drop at s r x e h = ap (node_by kinds) (record_drop at s ∙ ap (record_at 
 four : (a : ℕ) → ((a / 256 / 256 / 256 * 256 + a / 256 / 256 % 256) * 256 + a / 256 % 256) * 256 + a % 256 ≡ a
 four a = omega (arith, div-add-mod' a 256, div-add-mod' (a / 256) 256, div-add-mod' (a / 256 / 256) 256)
 
+host_leaf : {d : Dir} {v a : ℕ} → v ≡ a → ◌≡◌ {A = Out Node} (Ok (LeafNode (Host4 d v))) (Ok (LeafNode (Host4 d a)))
+host_leaf {d} e = ap (λ v. Ok (LeafNode (Host4 d v))) e
+
+port_leaf : {d : Dir} {p : Option Proto} {v k : ℕ} → v ≡ k → ◌≡◌ {A = Out Node} (Ok (LeafNode (Port d p v))) (Ok (LeafNode (Port d p k)))
+port_leaf {d} {p} e = ap (λ v. Ok (LeafNode (Port d p v))) e
+
 term_node : (t : Term) (rest : List ℕ) → node_at 0 (term_record t ++ rest) ≡ Ok (LeafNode (term_leaf t))
 unfolding node_by good record_at be bytes_at
-term_node (named ip) rest = refl
-term_node (named ip6) rest = refl
-term_node (named arp) rest = refl
-term_node (named rarp) rest = refl
+term_node (hosts (Some dst) a) rest = host_leaf (omega (arith, four a))
+term_node (hosts s a) rest = host_leaf (omega (arith, four a))
+term_node (ports None (Some dst) k) rest = port_leaf (omega (arith, div-add-mod' k 256))
+term_node (ports (Some tcp) (Some dst) k) rest = port_leaf (omega (arith, div-add-mod' k 256))
+term_node (ports (Some udp) (Some dst) k) rest = port_leaf (omega (arith, div-add-mod' k 256))
+term_node (ports (Some sctp) (Some dst) k) rest = port_leaf (omega (arith, div-add-mod' k 256))
+term_node (ports t s k) rest = port_leaf (omega (arith, div-add-mod' k 256))
 term_node (named icmp) rest = refl
-term_node (bare tcp) rest = refl
-term_node (bare udp) rest = refl
 term_node (bare sctp) rest = refl
-term_node (hosts None a) rest = ap (λ v. Ok (LeafNode (Host4 (dir_of None) v))) (omega (arith, four a))
-term_node (hosts (Some src) a) rest = ap (λ v. Ok (LeafNode (Host4 (dir_of (Some src)) v))) (omega (arith, four a))
-term_node (hosts (Some dst) a) rest = ap (λ v. Ok (LeafNode (Host4 (dir_of (Some dst)) v))) (omega (arith, four a))
-term_node (ports None None k) rest = ap (λ v. Ok (LeafNode (Port (dir_of None) (maybe_proto None) v))) (omega (arith, div-add-mod' k 256))
-term_node (ports None (Some src) k) rest = ap (λ v. Ok (LeafNode (Port (dir_of (Some src)) (maybe_proto None) v))) (omega (arith, div-add-mod' k 256))
-term_node (ports None (Some dst) k) rest = ap (λ v. Ok (LeafNode (Port (dir_of (Some dst)) (maybe_proto None) v))) (omega (arith, div-add-mod' k 256))
-term_node (ports (Some tcp) None k) rest = ap (λ v. Ok (LeafNode (Port (dir_of None) (maybe_proto (Some tcp)) v))) (omega (arith, div-add-mod' k 256))
-term_node (ports (Some tcp) (Some src) k) rest = ap (λ v. Ok (LeafNode (Port (dir_of (Some src)) (maybe_proto (Some tcp)) v))) (omega (arith, div-add-mod' k 256))
-term_node (ports (Some tcp) (Some dst) k) rest = ap (λ v. Ok (LeafNode (Port (dir_of (Some dst)) (maybe_proto (Some tcp)) v))) (omega (arith, div-add-mod' k 256))
-term_node (ports (Some udp) None k) rest = ap (λ v. Ok (LeafNode (Port (dir_of None) (maybe_proto (Some udp)) v))) (omega (arith, div-add-mod' k 256))
-term_node (ports (Some udp) (Some src) k) rest = ap (λ v. Ok (LeafNode (Port (dir_of (Some src)) (maybe_proto (Some udp)) v))) (omega (arith, div-add-mod' k 256))
-term_node (ports (Some udp) (Some dst) k) rest = ap (λ v. Ok (LeafNode (Port (dir_of (Some dst)) (maybe_proto (Some udp)) v))) (omega (arith, div-add-mod' k 256))
-term_node (ports (Some sctp) None k) rest = ap (λ v. Ok (LeafNode (Port (dir_of None) (maybe_proto (Some sctp)) v))) (omega (arith, div-add-mod' k 256))
-term_node (ports (Some sctp) (Some src) k) rest = ap (λ v. Ok (LeafNode (Port (dir_of (Some src)) (maybe_proto (Some sctp)) v))) (omega (arith, div-add-mod' k 256))
-term_node (ports (Some sctp) (Some dst) k) rest = ap (λ v. Ok (LeafNode (Port (dir_of (Some dst)) (maybe_proto (Some sctp)) v))) (omega (arith, div-add-mod' k 256))
+term_node t rest = refl
 
 join_node : Join → Node
 join_node and = AndNode
@@ -238,29 +234,14 @@ passes link l p e h =
 module _ (L : LinkType) (f : List ℕ) where
   term_reads : (t : Term) → reads_primitive L f (term_leaf t) ≡ term_says L f t
   unfolding reads_primitive reads_proto ipv4
-  term_reads (named ip) = refl
-  term_reads (named ip6) = refl
-  term_reads (named arp) = refl
-  term_reads (named rarp) = refl
   term_reads (named icmp) = refl
-  term_reads (bare tcp) = refl
-  term_reads (bare udp) = refl
   term_reads (bare sctp) = refl
-  term_reads (hosts None a) = refl
-  term_reads (hosts (Some src) a) = refl
   term_reads (hosts (Some dst) a) = refl
-  term_reads (ports None None k) = refl
-  term_reads (ports None (Some src) k) = refl
   term_reads (ports None (Some dst) k) = refl
-  term_reads (ports (Some tcp) None k) = refl
-  term_reads (ports (Some tcp) (Some src) k) = refl
   term_reads (ports (Some tcp) (Some dst) k) = refl
-  term_reads (ports (Some udp) None k) = refl
-  term_reads (ports (Some udp) (Some src) k) = refl
   term_reads (ports (Some udp) (Some dst) k) = refl
-  term_reads (ports (Some sctp) None k) = refl
-  term_reads (ports (Some sctp) (Some src) k) = refl
   term_reads (ports (Some sctp) (Some dst) k) = refl
+  term_reads t = refl
 
   mutual
     unfolding reads

@@ -6,6 +6,7 @@ use mathlib.Core.Bool.{Bool, true, false, cond, not, ◌&&◌}
 use native.Mathlib.Omega.{arith}
 use lib.ListN.{length}
 use lib.Dec.{eqb}
+use borrow.Author.Tests.{not-true}
 use Rattle.typing.specs.Words.{word_of, in_word, AllInWord, up_to, Placed, spotted, words_from}
 
 -- what is a word's ends at the first space
@@ -29,16 +30,9 @@ space_parts (c ∷ s) t after at =
 
 -- ---- bytes without a space
 
-space_none : (c : ℕ) → in_word c ≡ true → eqb c 0x20 ≡ false
-space_none c e = by (eqb c 0x20) e
-  where
-    by : (b : Bool) → not b ≡ true → b ≡ false
-    by true h = let z : ◌≡◌ {A = ℕ} 0 1 = cc in absurd (omega arith)
-    by false h = refl
-
 up_to_end : (s : List ℕ) → AllInWord s → up_to 0x20 s ≡ s
 up_to_end [] h = refl
-up_to_end (c ∷ s) h = rw (space_none c h.0) (ap (λ r. c ∷ r) (up_to_end s h.1))
+up_to_end (c ∷ s) h = rw (not-true (eqb c 0x20) h.0) (ap (λ r. c ∷ r) (up_to_end s h.1))
 
 -- behind a byte of a word no other word starts
 none_starts : (s : List ℕ) (at : ℕ) → AllInWord s → words_from true at s ≡ []

@@ -5,7 +5,6 @@ use lib.Dec.{eqb}
 use borrow.Author.Tests.{ne_eqb}
 use Rattle.bpf.specs.Bytes.{be}
 use Rattle.typing.specs.Words.{decimal, onto, parts, before, octets, four, up_to}
-use Rattle.typing.proofs.Answers.{never}
 use Rattle.typing.proofs.Numerals.{read, all_digits, parts_last, parts_dotted, dotted}
 use Rattle.words.specs.Numbers.{Few}
 use Rattle.words.proofs.Scans.{take_up_to}
@@ -37,7 +36,7 @@ pub no_dot : (s : List ℕ) → length (up_to 46 s) ≡ length s → Few 1 (octe
 no_dot s h = rw (last s h) (by (decimal 255 (up_to 46 s)))
   where
     by : (o : Option ℕ) → Few 1 (before o (Some []))
-    by None bs e = never cc
+    by None bs e = cc
     by (Some b) bs e = let z : b ∷ [] ≡ bs = cc in rw (← z) (omega arith)
 
 -- where the first dot stands at a place
@@ -49,7 +48,7 @@ module _ (s : List ℕ) (n : ℕ) (dot : n ≡ length (up_to 46 s)) (inside : n 
   front o e = rw (dot, take_up_to) at e
 
   pub no_byte : decimal 255 (take n s) ≡ None → Few 1 (octets (parts s))
-  no_byte e = rw (split, front None e) (λ bs k. never cc)
+  no_byte e = rw (split, front None e) (λ bs k. cc)
 
   pub byte_more : (b : ℕ) → decimal 255 (take n s) ≡ Some b → octets (parts s) ≡ before (Some b) (octets (parts (take (length s - (n + 1)) (drop (n + 1) s))))
   byte_more b e = rw (split, front (Some b) e, take_all (length s - (n + 1)) (drop (n + 1) s) (omega (arith, length-drop (n + 1) s)))
@@ -65,14 +64,14 @@ unfolding dotted
 last_bad s e bs w h = by (parts s) (parts_dotted s) w
   where
     two : (o q : Option ℕ) (os : Option (List ℕ)) → before o (before q os) ≡ Some bs → ⊥
-    two None q os w = never cc
-    two (Some b) None os w = never cc
-    two (Some b) (Some c) None w = never cc
+    two None q os w = cc
+    two (Some b) None os w = cc
+    two (Some b) (Some c) None w = cc
     two (Some b) (Some c) (Some cs) w = let z : b ∷ c ∷ cs ≡ bs = cc in omega (arith, ap length z)
 
     by : (ps : List (List ℕ)) → dotted ps ≡ s → octets ps ≡ Some bs → ⊥
     by [] d w = let z : [] ≡ bs = cc in omega (arith, ap length z)
-    by (p ∷ []) d w = let k : before (decimal 255 s) (Some []) ≡ Some bs = rw d at w in never cc
+    by (p ∷ []) d w = let k : before (decimal 255 s) (Some []) ≡ Some bs = rw d at w in cc
     by (p ∷ q ∷ ps) d w = two (decimal 255 p) (decimal 255 q) (octets ps) w
 
 -- ---- four parts

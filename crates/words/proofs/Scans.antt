@@ -5,7 +5,6 @@ use lib.Dec.{eqb, leb, ltb}
 use lib.Seq.{drop-cons}
 use borrow.Author.Tests.{lt-leb, leb-true, ltb-true, ltb-false}
 use Rattle.typing.specs.Words.{digits, value, empty, decimal, up_to}
-use Rattle.typing.proofs.Answers.{never}
 use Rattle.words.specs.Numbers.{counted}
 
 -- ---- up to a stop
@@ -45,14 +44,14 @@ stop_found stop s n e = by (ltb (position_or_len (λ b. eqb b stop) s) (length s
     by : (b : Bool) → ltb (position_or_len (λ b. eqb b stop) s) (length s) ≡ b
         → cond b (Some (position_or_len (λ b. eqb b stop) s)) None ≡ Some n → (n ≡ length (up_to stop s)) × (n < length s)
     by true h w = let z : position_or_len (λ b. eqb b stop) s ≡ n = cc in (sym z ∙ stop_at stop s, rw z at (ltb-true _ (length s) h))
-    by false h w = never cc
+    by false h w = cc
 
 pub no_stop : (stop : ℕ) (s : List ℕ) → position (λ b. eqb b stop) s ≡ None → length (up_to stop s) ≡ length s
 no_stop stop s e = by (ltb (position_or_len (λ b. eqb b stop) s) (length s)) refl e
   where
     by : (b : Bool) → ltb (position_or_len (λ b. eqb b stop) s) (length s) ≡ b
         → cond b (Some (position_or_len (λ b. eqb b stop) s)) None ≡ None → length (up_to stop s) ≡ length s
-    by true h w = never cc
+    by true h w = cc
     by false h w = omega (arith, ltb-false _ (length s) h, stop_at stop s, up_to_short stop s)
 
 pub take_up_to : (stop : ℕ) (s : List ℕ) → take (length (up_to stop s)) s ≡ up_to stop s
@@ -94,11 +93,11 @@ over_most most v s i h k =
 -- ---- decimals
 
 pub decimal_small : (most : ℕ) (s : List ℕ) (v : ℕ) → decimal most s ≡ Some v → v ≤ most
-decimal_small most [] v e = never cc
+decimal_small most [] v e = cc
 decimal_small most (c ∷ s) v e = by (digits (c ∷ s)) (not (eqb c 48) || empty s) (leb (value 0 (c ∷ s)) most) refl e
   where
     by : (a b l : Bool) → leb (value 0 (c ∷ s)) most ≡ l → cond (a && (b && l)) (Some (value 0 (c ∷ s))) None ≡ Some v → v ≤ most
     by true true true h e = let z : value 0 (c ∷ s) ≡ v = cc in omega (arith, leb-true (value 0 (c ∷ s)) most h)
-    by true true false h e = never cc
-    by true false l h e = never cc
-    by false b l h e = never cc
+    by true true false h e = cc
+    by true false l h e = cc
+    by false b l h e = cc
