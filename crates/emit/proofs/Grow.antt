@@ -1,8 +1,9 @@
 -- How blocks are added: nothing, one line, and one block after another.
-use Rattle.std.proofs.Common.{◌≡◌, refl, ap, sym, ◌∙◌, List, [], ◌∷◌, ◌++◌, length, take, set, map, Bool, true, false, cond, ◌||◌, ℕ, suc, ◌+◌, ◌<◌, ◌≤◌, append_assoc, add-one, arith}
+use Rattle.std.proofs.Common.{◌≡◌, refl, ap, sym, ◌∙◌, List, [], ◌∷◌, ◌++◌, length, take, set, Bool, true, false, cond, ◌||◌, ℕ, suc, ◌+◌, ◌<◌, ◌≤◌, append_assoc, add-one, arith}
+use Rattle.std.proofs.Math.Bool.{or_assoc}
 use Rattle.std.proofs.Math.Seq.{take-suc-set}
 use mir.Val.{bool_byte}
-use lib.ListN.{length-append, length-set, length-take}
+use lib.ListN.{length-append, length-set}
 use mathlib.Core.List.{append-nil}
 use native.Mathlib.Nat.{add-zero}
 use Rattle.bpf.specs.declared.Insn.{Insn}
@@ -16,7 +17,7 @@ use Rattle.codegen.specs.Block.{Block, same, far, far_line, sets_x, writes_x, as
 use Rattle.codegen.specs.Emit.{Code, code}
 use Rattle.emit.specs.declared.Patch.{Patch}
 use Rattle.emit.specs.declared.Emitter.{Emitter}
-use Rattle.emit.specs.Lines.{assembled, exit_of, patch_of, pending, patches, waiting, writes}
+use Rattle.emit.specs.Lines.{assembled, exit_of, patch_of, pending, patches, writes}
 use Rattle.emit.specs.Grown.{Space, Room, Put, Waits, Grew, Grows}
 
 -- ---- one line
@@ -114,14 +115,10 @@ unfolding writes_x
 writes_some [] e = absurd (e refl)
 writes_some (l ∷ B) e = bit_some (sets_x l) (writes_x B) (writes B) (writes_some B) e
 
-or_assoc : (a b c : Bool) → a || (b || c) ≡ (a || b) || c
-or_assoc true b c = refl
-or_assoc false b c = refl
-
 pub far_append : (A B : Block) → far (A ++ B) ≡ far A || far B
 unfolding far
 far_append [] B = refl
-far_append (l ∷ A) B = ap (λ (b : Bool). far_line l || b) (far_append A B) ∙ or_assoc (far_line l) (far A) (far B)
+far_append (l ∷ A) B = ap (λ (b : Bool). far_line l || b) (far_append A B) ∙ sym (or_assoc (far_line l) (far A) (far B))
 
 -- ---- blocks
 
@@ -164,23 +161,27 @@ then {A} {g} {c} {e} p q = record {
   link = q.link ∙ p.link;
 }
 
+-- other facts hold after a block
+pub knowing : {b : Block} {g h h' : Facts} {e f : Emitter} → h' ≡ h → Grew (code b g) e f → Grew (code b h) e (record f { facts = h' })
+knowing q p = record {
+  insns = p.insns;
+  successes = p.successes;
+  failures = p.failures;
+  writings = p.writings;
+  near = p.near;
+  lines = p.lines;
+  won = p.won;
+  lost = p.lost;
+  facts = q;
+  row = p.row;
+  won_room = p.won_room;
+  lost_room = p.lost_room;
+  link = p.link;
+}
+
 -- the same with a block that learns nothing
 pub grows_then : {A B : Block} {e f k : Emitter} → Grows A e f → Grows B f k → Grows (A ++ B) e k
-grows_then {A} {B} {e} {f} p q = let z = then p q in record {
-  insns = z.insns;
-  successes = z.successes;
-  failures = z.failures;
-  writings = z.writings;
-  near = z.near;
-  lines = z.lines;
-  won = z.won;
-  lost = z.lost;
-  facts = q.facts ∙ p.facts;
-  row = z.row;
-  won_room = z.won_room;
-  lost_room = z.lost_room;
-  link = z.link;
-}
+grows_then p q = knowing (q.facts ∙ p.facts) (then p q)
 
 -- at most n more of everything
 pub record Sized (n : ℕ) (e f : Emitter) : Type 0 where
@@ -241,18 +242,4 @@ sized_then k h y z = record {
   writings₀ = omega (arith, y.writings₀, z.writings₀);
   won_room = z.won_room ∙ y.won_room;
   lost_room = z.lost_room ∙ y.lost_room;
-}
-
-pub sized_none : (e : Emitter) → Sized 0 e e
-sized_none e = record {
-  insns = omega arith;
-  successes = omega arith;
-  failures = omega arith;
-  writings = omega arith;
-  insns₀ = omega arith;
-  successes₀ = omega arith;
-  failures₀ = omega arith;
-  writings₀ = omega arith;
-  won_room = refl;
-  lost_room = refl;
 }

@@ -1,6 +1,5 @@
 -- Answers against what the definition gives: refused, or made; and one part after another.
-use Rattle.std.proofs.Common.{◌≡◌, refl, sym, ap, ◌∙◌, subst, [], ◌∷◌, ◌++◌, append_assoc, Ok, Err}
-use mathlib.Core.List.{append-nil}
+use Rattle.std.proofs.Common.{◌≡◌, refl, sym, ap, subst, [], ◌++◌, Ok, Err}
 use Rattle.error.specs.declared.Refusal.{Refusal}
 use Rattle.error.specs.Answer.{Out, ◌>>=◌}
 use Rattle.codegen.specs.declared.Facts.{Facts}
@@ -44,24 +43,6 @@ unchanged e = record { is = none e }
 pub turned_down : {q : Refusal} (e f : Emitter) → Replies (Err q) e f (Err q)
 turned_down e f = record { is = refl }
 
--- other facts hold after a block
-pub knowing : {b : Block} {g h h' : Facts} {e f : Emitter} → h' ≡ h → Grew (code b g) e f → Grew (code b h) e (record f { facts = h' })
-knowing q p = record {
-  insns = p.insns;
-  successes = p.successes;
-  failures = p.failures;
-  writings = p.writings;
-  near = p.near;
-  lines = p.lines;
-  won = p.won;
-  lost = p.lost;
-  facts = q;
-  row = p.row;
-  won_room = p.won_room;
-  lost_room = p.lost_room;
-  link = p.link;
-}
-
 -- ---- one part after another
 
 -- an answer that follows a block
@@ -83,8 +64,3 @@ module _ {o : Out Code} {e f : Emitter} where
   -- a known block follows
   pub bind_grew : {k : Emitter} {b : Block} → Went o e f → Grows b f k → Replies (o >>= λ c. Ok (code (c.block ++ b) c.facts)) e k (Ok tt)
   bind_grew w g = let z = then w.grew g in rw (w.eq, ← w.grew.facts) (record { is = z })
-
-  -- an answer from the facts after the first part follows
-  pub bind_reply : Went o e f → (k : Facts → Out Code) {j : Emitter} {r : Out (Unit {0})}
-      → Replies (k f.facts) f j r → Replies (o >>= λ c. after c.block (k c.facts)) e j r
-  bind_reply w k {r = r} h = rw (w.eq, ← w.grew.facts) (after_reply (k f.facts) r w.grew h)

@@ -1,12 +1,11 @@
 -- One pending jump of a row after another.
-use Rattle.std.proofs.Common.{◌≡◌, ℕ, suc, ◌+◌, ◌-◌, ◌<◌, ◌≤◌, List, [], ◌∷◌, length, take, drop, get_or, ap, sym, ◌∙◌, subst, add-one, drop-cons, Ok, Err, arith}
+use Rattle.std.proofs.Common.{◌≡◌, ℕ, ◌+◌, ◌-◌, ◌<◌, ◌≤◌, List, ◌∷◌, length, take, drop, get_or, ap, sym, ◌∙◌, subst, add-one, drop-cons, Ok, Err, arith}
 use Rattle.std.proofs.lemmas.List.{drop_all, drop-take}
 use borrow.Author.Tests.{lt-ltb, le-ltb}
 use Rattle.error.specs.declared.Refusal.TheVariants.{FarJump}
 use Rattle.bpf.specs.declared.Insn.{Insn}
 use Rattle.emit.specs.declared.Patch.{Patch}
 use Rattle.emit.specs.Lines.{place_of, resolved, resolve, Below}
-use Rattle.emit.specs.Grown.{Settles}
 
 pub far_cons : (q : Patch) (qs : List Patch) (T : ℕ) (I : List Insn) → 255 < T - place_of q - 1 → resolve (q ∷ qs) T I ≡ Err FarJump
 unfolding resolve

@@ -1,13 +1,14 @@
 -- Settling and turning in an emitter are those of blocks.
-use Rattle.std.proofs.Common.{◌≡◌, refl, sym, ap, ◌∙◌, subst, List, [], ◌∷◌, ◌++◌, length, take, drop, get_or, set, Bool, true, false, not, cond, ◌||◌, ℕ, suc, ◌+◌, ◌-◌, ◌^◌, ◌<◌, ◌≤◌, append_assoc, arith, Ok, Err}
+use Rattle.std.proofs.Common.{◌≡◌, refl, sym, ap, ◌∙◌, subst, List, [], ◌∷◌, ◌++◌, length, take, drop, Bool, true, false, cond, ℕ, suc, ◌+◌, ◌-◌, ◌^◌, ◌<◌, ◌≤◌, append_assoc, arith, Ok, Err}
 use mathlib.Core.List.{append-nil}
 use mathlib.Core.Bool.{true≢false}
+use Rattle.std.proofs.lemmas.Bool.{or_parts}
 use borrow.Author.Tests.{ltb-true, ltb-false, le-ltb}
 use lib.Dec.{ltb}
 use lib.ListN.{replicate, length-append, length-replicate, take-append-drop}
 use lib.Seq.{get_or_at, set_at, take_at, drop_at, take-take, length-take-le}
 use Rattle.error.specs.declared.Refusal.TheVariants.{FarJump}
-use Rattle.error.specs.Answer.{Out, ◌>>=◌}
+use Rattle.error.specs.Answer.{Out}
 use Rattle.bpf.specs.declared.Insn.{Insn}
 use Rattle.codegen.specs.declared.Test.{Test}
 use Rattle.codegen.specs.declared.Side.{Side}
@@ -25,19 +26,15 @@ use Rattle.codegen.proofs.Near.{length_turn}
 use Rattle.emit.specs.declared.Patch.{Patch}
 use Rattle.emit.specs.declared.Emitter.{Emitter}
 use Rattle.emit.specs.Lines.{assembled, with_distance, no_insn, exit_of, patch_of, place_of, pending, patches, waiting, writes, resolved, resolve, Below}
-use Rattle.emit.specs.Grown.{Grew, Grows, Answers, Turned, Replies, Settles, stack_of, Cut, Open, Settled, coded, Otherwise}
-use Rattle.emit.proofs.Grow.{assembled_length, far_append, reached, then, grows_then}
+use Rattle.emit.specs.Grown.{Grew, Grows, Answers, Turned, Replies, stack_of, Cut, Open, Settled, coded, Otherwise}
+use Rattle.emit.proofs.Grow.{assembled_length, far_append, reached, then, knowing}
 use Rattle.emit.proofs.Resolving.{near_cons, far_cons}
 
 -- ---- a line whose exits are exchanged
 
-or_false : (a b : Bool) → a || b ≡ false → (a ≡ false) × (b ≡ false)
-or_false true b e = (e, cc)
-or_false false b e = (refl, e)
-
 near_cut : (l : Line) (B : Block) → far (l ∷ B) ≡ false → (far_line l ≡ false) × (far B ≡ false)
 unfolding far
-near_cut l B e = or_false (far_line l) (far B) e
+near_cut l B e = or_parts (far_line l) (far B) e
 
 exit_swap : (e : Side) (q : Exit) (l : Line) → exit_of (swap_line e q l) ≡ swap e q (exit_of l)
 exit_swap e q (Plain o) = refl
@@ -109,7 +106,7 @@ near_settle : (e : Side) (d : ℕ) (B : Block) → far B ≡ false → length B 
 unfolding settle far
 near_settle e d [] f h = refl
 near_settle e d (l ∷ B) f h =
-    let c = or_false (far_line l) (far B) f in
+    let c = or_parts (far_line l) (far B) f in
     rw (near_swap e (length B + d) l (omega arith) c.0) (near_settle e d B c.1 (omega arith))
 
 pub near_short : (B : Block) → far B ≡ false → length B ≤ 255 → far (otherwise B) ≡ false
@@ -394,21 +391,7 @@ opened s over g h k n = record { most = n; mark = more s g; room = k; below = be
 
 -- a block with the facts that hold after it
 pub refacts : {c : Code} {e f : Emitter} → Grew c e f → Grew (code c.block f.facts) e f
-refacts g = record {
-  insns = g.insns;
-  successes = g.successes;
-  failures = g.failures;
-  writings = g.writings;
-  near = g.near;
-  lines = g.lines;
-  won = g.won;
-  lost = g.lost;
-  facts = refl;
-  row = g.row;
-  won_room = g.won_room;
-  lost_room = g.lost_room;
-  link = g.link;
-}
+refacts g = knowing refl g
 
 -- a block that is short and the jump out of it: every distance is within 255
 otherwise_short : {c : Code} {e f : Emitter} → Grew c e f → length c.block ≤ 17 → far (otherwise c.block) ≡ false

@@ -1,5 +1,5 @@
 -- What the functions of the generator leave in an emitter.
-use Rattle.std.specs.Prelude.{ℕ, ◌+◌, ◌<◌, ◌≤◌, ◌≡◌, List, [], ◌∷◌, ◌++◌, false, ◌^◌, length, take, drop, set, Ok, Err, IfOk}
+use Rattle.std.specs.Prelude.{ℕ, ◌+◌, ◌<◌, ◌≤◌, ◌≡◌, List, [], ◌++◌, false, ◌^◌, length, take, drop, set, Ok, Err, IfOk}
 use Rattle.error.specs.Answer.{Out, ◌>>=◌}
 use Rattle.bpf.specs.declared.Insn.{Insn}
 use Rattle.ast.specs.declared.LinkType.{LinkType}

@@ -1,5 +1,5 @@
 -- Blocks as the code holds them: their instructions in a row, and two stacks of pending jumps.
-use Rattle.std.specs.Prelude.{ℕ, ◌+◌, ◌-◌, ◌<◌, List, [], ◌∷◌, Bool, cond, map, take, get_or, set, ltb, Ok, Err}
+use Rattle.std.specs.Prelude.{ℕ, ◌+◌, ◌-◌, ◌<◌, List, [], ◌∷◌, cond, map, take, get_or, set, ltb, Ok, Err}
 use Rattle.error.specs.declared.Refusal.TheVariants.{FarJump}
 use Rattle.error.specs.Answer.{Out}
 use Rattle.bpf.specs.declared.Insn.{Insn}

@@ -1,4 +1,4 @@
-use Rattle.std.proofs.Common.{◌-◌, ◌+◌, sym, ◌∙◌, refl, arith}
+use Rattle.std.proofs.Common.{◌∙◌, refl, arith}
 use Rattle.emit.specs.declared.Patch.TheVariants.{Jt}
 use Rattle.emit.proofs.Resolving.{below_step, resolve_far, resolve_step, resolve_end}
 use Rattle.emit.proofs.resolve_all.Goals as goal
