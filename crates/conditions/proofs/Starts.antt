@@ -1,6 +1,5 @@
 -- What a condition starts with: the ethertype, and what follows it.
-use Rattle.std.proofs.Common.{◌≡◌, refl, sym, ap, ◌∙◌, ℕ, ◌+◌, ◌≤◌, Bool, true, false, not, Option, None, Some, Ok, Err, length, arith}
-use Rattle.std.specs.Option.{option_eq}
+use Rattle.std.proofs.Common.{◌≡◌, sym, ap, ◌∙◌, ℕ, ◌+◌, ◌≤◌, Bool, true, false, Ok, Err, length, arith}
 use lib.Dec.{eqb}
 use Rattle.error.specs.declared.Refusal.{Refusal}
 use Rattle.error.specs.Answer.{Out}
@@ -14,24 +13,10 @@ use Rattle.codegen.specs.Block.{Block}
 use Rattle.codegen.specs.Emit.{Code, net_offset, check, emit_ethertype, guarded, emit_l4}
 use Rattle.emit.specs.declared.Emitter.{Emitter}
 use Rattle.emit.specs.Grown.{Grows, Replies}
-use Rattle.emit.proofs.Grow.{Sized, sized, then}
-use Rattle.emit.proofs.Outcome.{Went, reply_done, answer, knowing, bind_refused, bind_grew}
+use Rattle.emit.proofs.Grow.{Sized, sized, then, knowing}
+use Rattle.emit.proofs.Outcome.{Went, reply_done, answer, bind_refused, bind_grew}
 use Rattle.conditions.specs.declared.Version.{Version}
 use Rattle.conditions.specs.Loads.{ether_of, proto_place, proto_fact, learn_proto, emit_version}
-
--- ---- what is known
-
-same_known : (x : Option ℕ) (v : ℕ) → holds x v ≡ option_eq eqb x (Some v)
-same_known None v = refl
-same_known (Some w) v = refl
-
-turned : (a b : Bool) → b ≡ not a → a ≡ not b
-turned true b e = sym (ap not e)
-turned false b e = sym (ap not e)
-
--- whether a fact is not the value v
-pub held : (x : Option ℕ) (v : ℕ) {b : Bool} → b ≡ not (option_eq eqb x (Some v)) → holds x v ≡ not b
-held x v {b} e = same_known x v ∙ turned (option_eq eqb x (Some v)) b e
 
 -- ---- how much an ethertype adds at most
 
@@ -42,7 +27,7 @@ Short n c = length c.block ≤ n
 pub went_size : {o : Out Code} {e f : Emitter} (n : ℕ) → All (Short n) o → Went o e f → Sized n e f
 went_size n h w = sized n (rw w.eq at h) w.grew
 
-ethertype_short : (L : LinkType) (et : ℕ) (g : Facts) → All (Short 2) (emit_ethertype L et g)
+pub ethertype_short : (L : LinkType) (et : ℕ) (g : Facts) → All (Short 2) (emit_ethertype L et g)
 unfolding emit_ethertype
 ethertype_short Ethernet et g = either (All (Short 2)) (holds g.ethertype et) (omega arith) (omega arith)
 ethertype_short RawIp et g = either (All (Short 2)) (eqb et 0x0800) (omega arith) tt
@@ -61,13 +46,12 @@ module _ (L : LinkType) (et : ℕ) (g : Facts) {e f : Emitter} {r : Out (Unit {0
   unfolding guarded
   guarded_refused d b = bind_refused h d _
 
-  -- a block whose loads go by the network header's start
-  pub guarded_grew : {u : Unit {0}} {k : Emitter} {n : ℕ} (B : ℕ → Block) → r ≡ Ok u → L ≡ e.link → n ≡ net_offset f.link → Grows (B n) f k
-      → Replies (guarded L et (B (net_offset L)) g) e k (Ok tt)
+  pub guarded_grew : {u : Unit {0}} {b : Block} {k : Emitter} → r ≡ Ok u → Grows b f k → Replies (guarded L et b g) e k (Ok tt)
   unfolding guarded
-  guarded_grew B d l o p =
-      let z : net_offset L ≡ _ = sym (o ∙ ap net_offset (ethertype_link d ∙ sym l)) in
-      rw z (bind_grew (reply_done h d) p)
+  guarded_grew d p = bind_grew (reply_done h d) p
+
+-- what the conditions with one block after an ethertype need
+pub ruleset guarding = (ethertype_size, ethertype_link, guarded_refused, guarded_grew)
 
 -- ---- a protocol after it
 

@@ -89,6 +89,7 @@ impl Version {
 
 // ---- ethertype and protocol
 
+#[tactic(auto, using(emit::proofs::Outcome::unchanged), unfolding(codegen::specs::Emit::emit_ethertype))]
 pub fn emit_ethertype(e: &mut Emitter<'_>, et: u32) -> Result<(), Refusal>
     requires { Space 2 e.old }
     ensures { Replies (E.emit_ethertype e.old.link et e.old.facts) e.old e.new result }
@@ -108,6 +109,7 @@ pub fn emit_ethertype(e: &mut Emitter<'_>, et: u32) -> Result<(), Refusal>
 }
 
 // The ethertype of a version and then its protocol: `emit_ip4_l4`, `emit_ip6_l4`.
+#[tactic(auto, using(crate::proofs::Starts::ethertype_size, crate::proofs::Starts::l4_refused, crate::proofs::Starts::l4_known, crate::proofs::Starts::l4_tested))]
 pub fn emit_l4(e: &mut Emitter<'_>, version: Version, n: u32) -> Result<(), Refusal>
     requires { Space 4 e.old }
     ensures { Replies (L.emit_version e.old.link version n e.old.facts) e.old e.new result }
@@ -143,6 +145,7 @@ fn check_load(e: &mut Emitter<'_>, op: Op, mask: Option<u32>, k: u32)
 
 // `check_addr4`: two loads, each compared with k, by direction. With either, the source test's jt is a success.
 // The parameters are those of the source's `check_addr4`.
+#[tactic(auto, unfolding(codegen::specs::Emit::check_loads))]
 pub fn check_addr4(e: &mut Emitter<'_>, dir: Dir, src: Op, dst: Op, mask: Option<u32>, k: u32)
     requires { Room 6 e.old }
     ensures { Grows (E.check_loads dir k (L.load src mask) (L.load dst mask)) e.old e.new }
@@ -181,6 +184,7 @@ pub trait Check {
 }
 
 // A segment under a mask that is not full, the last one tested; nothing under a mask of 0.
+#[tactic(auto, using(emit::proofs::Grow::none))]
 fn check_last(e: &mut Emitter<'_>, mask: u32, expected: u32, off: u32)
     requires { Space 3 e.old }
     ensures { Grows (N.last_test mask expected off) e.old e.new }
@@ -198,6 +202,7 @@ impl Check for Net6 {
 
     ghost few = { Prim.search rules };
 
+    #[tactic(auto, using(crate::proofs::Nets::tests_short))]
     fn check(&self, e: &mut Emitter<'_>, off: u32) {
         // By number: a segment's place in the frame is told by it.
         for i in 0..8 {
@@ -226,6 +231,7 @@ impl Check for Range {
 
     ghost few = { Prim.search rules };
 
+    #[tactic(auto, unfolding(codegen::specs::Emit::check_range))]
     fn check(&self, e: &mut Emitter<'_>, off: u32) {
         e.add(Line::Plain(Op::LdhInd(off)));
         e.add(Line::Branch(Test::Jge, self.low, Slot::Jf, Exit::Leave(Side::Failure)));
@@ -254,6 +260,7 @@ impl Check for Mac {
 }
 
 // Two tests by direction. With either, the second is tried where the first fails.
+#[tactic(auto, unfolding(codegen::specs::Emit::check_blocks))]
 pub fn check_sides<C: Check>(e: &mut Emitter<'_>, dir: Dir, test: &C, src: u32, dst: u32)
     requires room { Room (C.most + 1 + C.most) e.old }
     requires src { src < 65536 }
@@ -279,6 +286,7 @@ pub fn check_sides<C: Check>(e: &mut Emitter<'_>, dir: Dir, test: &C, src: u32, 
 // ---- conditions
 
 // `emit_host4`, `emit_net`: a value under a mask, whole for a host.
+#[tactic(auto, using(crate::proofs::Starts::guarding))]
 pub fn emit_net(e: &mut Emitter<'_>, dir: Dir, mask: Option<u32>, k: u32) -> Result<(), Refusal>
     requires { Room 8 e.old }
     ensures { Replies (E.guarded e.old.link 0x0800 (E.check_loads dir k (L.load (LdAbs Word (E.net_offset e.old.link + 12)) mask) (L.load (LdAbs Word (E.net_offset e.old.link + 16)) mask)) e.old.facts) e.old e.new result }
@@ -292,6 +300,7 @@ pub fn emit_net(e: &mut Emitter<'_>, dir: Dir, mask: Option<u32>, k: u32) -> Res
 }
 
 // `emit_host6`, `emit_net6`: the segments of an address as far as a prefix, 128 for a host.
+#[tactic(auto, using(crate::proofs::Starts::guarding))]
 pub fn emit_net6(
     e: &mut Emitter<'_>,
     dir: Dir,
@@ -308,6 +317,7 @@ pub fn emit_net6(
 }
 
 // Three calls with numbers of its own: one function for it and `emit_ip6_multicast` would take them all.
+#[tactic(auto, using(crate::proofs::Starts::guarding), unfolding(codegen::specs::Emit::emit_primitive))]
 pub fn emit_ip_broadcast(e: &mut Emitter<'_>) -> Result<(), Refusal>
     requires { Space 4 e.old }
     ensures { Replies (E.emit_primitive e.old.link IpBroadcast e.old.facts) e.old e.new result }
@@ -318,6 +328,7 @@ pub fn emit_ip_broadcast(e: &mut Emitter<'_>) -> Result<(), Refusal>
     Ok(())
 }
 
+#[tactic(auto, using(crate::proofs::Starts::guarding), unfolding(codegen::specs::Emit::emit_primitive))]
 pub fn emit_ip_multicast(e: &mut Emitter<'_>) -> Result<(), Refusal>
     requires { Space 5 e.old }
     ensures { Replies (E.emit_primitive e.old.link IpMulticast e.old.facts) e.old e.new result }
@@ -333,6 +344,7 @@ pub fn emit_ip_multicast(e: &mut Emitter<'_>) -> Result<(), Refusal>
     Ok(())
 }
 
+#[tactic(auto, using(crate::proofs::Starts::guarding), unfolding(codegen::specs::Emit::emit_primitive))]
 pub fn emit_ip6_multicast(e: &mut Emitter<'_>) -> Result<(), Refusal>
     requires { Space 4 e.old }
     ensures { Replies (E.emit_primitive e.old.link Ip6Multicast e.old.facts) e.old e.new result }

@@ -3,14 +3,6 @@ use Rattle.codegen.specs.Emit.{check_loads}
 use Rattle.emit.proofs.Grow.{grows_then}
 use Rattle.conditions.proofs.check_addr4.Goals as goal
 
-pub returns-in-Src : goal.returns-in-Src
-unfolding check_loads
-returns-in-Src c = rw c.in-Src.is c.check_load.ensures
-
-pub returns-in-Dst : goal.returns-in-Dst
-unfolding check_loads
-returns-in-Dst c = rw c.in-Dst.is c.check_load-in-Dst.ensures
-
 pub returns-in-SrcAndDst : goal.returns-in-SrcAndDst
 unfolding check_loads
 returns-in-SrcAndDst c = rw c.in-SrcAndDst.is (rw append_assoc at (grows_then c.check_load-in-SrcAndDst.ensures c.check_load-in-SrcAndDst-2.ensures))

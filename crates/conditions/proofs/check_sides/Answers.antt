@@ -37,14 +37,6 @@ check-requires-in-SrcOrDst-2-clause-room g c =
     let y = room_left (m + 1) {k = m} (omega arith) c.requires.room (sized (m + 1) (otherwise_size m _ h.short) z) in
     record { insns = y.insns; writings = y.writings; failures = y.failures }
 
-pub returns-in-Src : goal.returns-in-Src
-unfolding check_blocks
-returns-in-Src g c = rw c.in-Src.is c.check.ensures.lines
-
-pub returns-in-Dst : goal.returns-in-Dst
-unfolding check_blocks
-returns-in-Dst g c = rw c.in-Dst.is c.check-in-Dst.ensures.lines
-
 pub returns-in-SrcAndDst : goal.returns-in-SrcAndDst
 unfolding check_blocks
 returns-in-SrcAndDst g c = rw c.in-SrcAndDst.is (grows_then c.check-in-SrcAndDst.ensures.lines c.check-in-SrcAndDst-2.ensures.lines)

@@ -1,6 +1,6 @@
 use Rattle.std.proofs.Common.{rules, arith, ◌≡◌, ◌+◌, ◌*◌, length}
 use Rattle.emit.proofs.Grow.{sized, sized_then, none, grows_then}
-use Rattle.conditions.proofs.Nets.{tests_more, tests_last, tests_end, tests_short}
+use Rattle.conditions.proofs.Nets.{tests_more, tests_last, tests_end}
 use Rattle.conditions.proofs.Net6Check.check.Goals as goal
 
 pub returns-then-mask-clause-lines : goal.returns-then-mask-clause-lines
@@ -12,12 +12,6 @@ returns-then-mask-clause-lines c =
     let m : length w.expected ≡ 8 = search rules in
     l.invariant.rest _
     (rw (tests_last w.masks w.expected (c.args.off + 2 * l.i) l.i (omega arith) (omega arith) c.if-mask.true, ← c.from.ensures, ← c.from-expected.ensures) c.check_last.ensures)
-
-pub returns-then-mask-clause-short : goal.returns-then-mask-clause-short
-returns-then-mask-clause-short c =
-    let w = c.args.self.now in
-    let q = c.well_formed in
-    tests_short w.masks w.expected c.args.off (search rules)
 
 pub loop-i-preserved : goal.loop-i-preserved
 loop-i-preserved c =
@@ -42,9 +36,3 @@ returns-clause-lines c =
     let q = c.well_formed in
     let n : length w.masks ≡ 8 = search rules in
     l.invariant.rest _ (rw (tests_end w.masks w.expected (c.args.off + 2 * l.i) l.i (omega arith)) (none l.e))
-
-pub returns-clause-short : goal.returns-clause-short
-returns-clause-short c =
-    let w = c.args.self.now in
-    let q = c.well_formed in
-    tests_short w.masks w.expected c.args.off (search rules)

@@ -1,4 +1,3 @@
-use Rattle.std.proofs.Common.{arith}
 use Rattle.codegen.specs.Emit.{check_range}
 use Rattle.emit.proofs.Grow.{grows_then}
 use Rattle.conditions.proofs.RangeCheck.check.Goals as goal
@@ -6,7 +5,3 @@ use Rattle.conditions.proofs.RangeCheck.check.Goals as goal
 pub returns-clause-lines : goal.returns-clause-lines
 unfolding check_range
 returns-clause-lines c = grows_then c.add.ensures (grows_then c.add-2.ensures c.add-3.ensures)
-
-pub returns-clause-short : goal.returns-clause-short
-unfolding check_range
-returns-clause-short c = omega arith
