@@ -1,5 +1,7 @@
 -- Answers against what the definition gives: refused, or made; and one part after another.
 use Rattle.std.proofs.Common.{◌≡◌, refl, sym, ap, subst, [], ◌++◌, Ok, Err}
+use Rattle.std.specs.Result.{IsErrAnd}
+use Rattle.std.proofs.lemmas.Result.{err_from_is_err_and}
 use Rattle.error.specs.declared.Refusal.{Refusal}
 use Rattle.error.specs.Answer.{Out, ◌>>=◌}
 use Rattle.codegen.specs.declared.Facts.{Facts}
@@ -42,6 +44,10 @@ unchanged e = record { is = none e }
 
 pub turned_down : {q : Refusal} (e f : Emitter) → Replies (Err q) e f (Err q)
 turned_down e f = record { is = refl }
+
+-- a refusal that a `?` hands on
+pub handed_on : {o : Out Code} {e f : Emitter} {r : Out (Unit {0})} {q : Refusal} → IsErrAnd r (λ y. y ≡ q) → Replies o e f (Err q) → Replies o e f r
+handed_on {r = r} p h = let z = err_from_is_err_and r p in rw (z.1, z.2) h
 
 -- ---- one part after another
 

@@ -1,7 +1,5 @@
 -- Prologues and hoisted guards: their sizes, and one part after another.
-use Rattle.std.proofs.Common.{◌≡◌, ℕ, ◌+◌, ◌≤◌, subst, [], ◌∷◌, ◌++◌, length, Bool, true, false, not, cond, Option, None, Some, Ok, Err, arith, length-append}
-use lib.Dec.{eqb}
-use borrow.Author.Tests.{eq-eqb, ne_eqb}
+use Rattle.std.proofs.Common.{◌≡◌, ℕ, ◌+◌, ◌≤◌, subst, [], ◌∷◌, ◌++◌, length, Bool, not, cond, Option, None, Some, Ok, Err, arith, length-append}
 use denote.Enum.Bare.{sameb}
 use Rattle.error.specs.declared.Refusal.{Refusal}
 use Rattle.error.specs.Answer.{Out}
@@ -21,16 +19,16 @@ use Rattle.codegen.specs.declared.Exit.TheVariants.{Skip}
 use Rattle.codegen.specs.declared.Slot.TheVariants.{Jt}
 use Rattle.codegen.specs.declared.Line.TheVariants.{Plain, Branch, Jump}
 use Rattle.codegen.specs.Block.{Block}
-use Rattle.codegen.specs.Emit.{net_offset, ether_proto_offset, Code, code, need, l4_set_check, l4_check, header4, header6, fork, dual_path, Prologue, version, dual, ethertype_at, emit_ethertype, emit_l4, port_prereqs, is_raw, hoist_known, hoist_ports, or_hoist}
+use Rattle.codegen.specs.Emit.{net_offset, ether_proto_offset, Code, code, need, l4_set_check, l4_check, header4, header6, fork, dual_path, Prologue, version, dual, emit_ethertype, emit_l4, port_prereqs, is_raw, hoist_known, hoist_ports, or_hoist}
 use Rattle.emit.specs.declared.Emitter.{Emitter}
 use Rattle.emit.specs.Grown.{Grew, Grows, Replies}
-use Rattle.emit.proofs.Grow.{Sized, none, then}
+use Rattle.emit.proofs.Grow.{Sized, sized, none, then}
 use Rattle.emit.proofs.Outcome.{Went, reply_done, after_reply, bind_refused}
 use Rattle.conditions.specs.declared.Version.{Version}
 use Rattle.conditions.specs.declared.Version.TheVariants.{V4, V6}
 use Rattle.conditions.specs.Loads.{ether_of, proto_fact, header, emit_version}
-use Rattle.conditions.proofs.Starts.{Short, went_size}
-use Rattle.ports.specs.Hoist.{version_for, hoist_ethertype, hoist_l4, Follows}
+use Rattle.conditions.proofs.Starts.{Short, went_size, ethertype_short}
+use Rattle.ports.specs.Hoist.{hoist_ethertype, hoist_l4, Follows}
 
 -- ---- sizes
 
@@ -64,7 +62,7 @@ dual_short None n want g = omega arith
 dual_short (Some off) n (One p) g = omega arith
 dual_short (Some off) n TcpOrUdp g = omega arith
 
-pub prereqs_short : (L : LinkType) (want : L4Set) (g : Facts) → length (port_prereqs L want g).block ≤ 14
+prereqs_short : (L : LinkType) (want : L4Set) (g : Facts) → length (port_prereqs L want g).block ≤ 14
 unfolding port_prereqs
 prereqs_short L want g =
     let n = net_offset L in
@@ -73,25 +71,21 @@ prereqs_short L want g =
     (either (Short 14) (holds g.ethertype 0x86dd) (version_short (n + 6) n want V6 g.ports_ready g.ip6_nh)
     (dual_short (ether_proto_offset L) n want g)))
 
-at_short : (off : Option ℕ) (et : ℕ) (g : Facts) → All (Short 2) (ethertype_at off et g)
-at_short None et g = either (All (Short 2)) (eqb et 0x0800) (omega arith) tt
-at_short (Some off) et g = either (All (Short 2)) (holds g.ethertype et) (omega arith) (omega arith)
-
 module _ (L : LinkType) where
-  ethertype_short : (et : ℕ) (g : Facts) → All (Short 2) (emit_ethertype L et g)
-  unfolding emit_ethertype
-  ethertype_short et g = at_short (ether_proto_offset L) et g
-
   version_l4_short : (v : Version) (n : ℕ) (g : Facts) → All (Short 4) (emit_version L v n g)
   unfolding emit_l4
   version_l4_short v n g =
-      all_bind (Short 2) (Short 4) (emit_ethertype L (ether_of v) g) _ (ethertype_short (ether_of v) g)
+      all_bind (Short 2) (Short 4) (emit_ethertype L (ether_of v) g) _ (ethertype_short L (ether_of v) g)
       (λ c h. either (All (Short 4)) (holds (proto_fact v c.facts) n) (omega arith) (rw length-append (omega arith)))
 
   -- a guard after nothing
   known_short : (n : ℕ) (k : Option ℕ) (emit : ℕ → Facts → Out Code) (g : Facts) → ((v : ℕ) → All (Short n) (emit v g)) → All (Short n) (hoist_known L k emit (code [] g))
   known_short n None emit g h = omega arith
   known_short n (Some v) emit g h = all_bind (Short n) (Short n) (emit v g) _ (h v) (λ d j. j)
+
+-- what a prologue adds at most
+pub prereqs_size : (L : LinkType) (want : L4Set) (g : Facts) {e f : Emitter} → Grew (port_prereqs L want g) e f → Sized 14 e f
+prereqs_size L want g h = sized 14 (prereqs_short L want g) h
 
 -- ---- the parts of a prologue
 
@@ -109,37 +103,6 @@ pub dual_parts : (off n d : ℕ) (want : L4Set) → d ≡ length (l4_set_check w
 unfolding dual_path fork l4_check l4_set_check header4 header6
 dual_parts off n d (One p) e = rw e
 dual_parts off n d TcpOrUdp e = rw e
-
--- a fact that is the value w, and one that is not
-module _ {k : Option ℕ} where
-  pub is_held : {v w : ℕ} → k ≡ Some v → v ≡ w → holds k w ≡ true
-  is_held {v} {w} q h = rw q (eq-eqb v w h)
-
-  pub is_other : {v w : ℕ} → k ≡ Some v → (v ≡ w → ⊥) → holds k w ≡ false
-  is_other {v} {w} q h = rw q (ne_eqb v w h)
-
-  pub is_unknown : (w : ℕ) → k ≡ None → holds k w ≡ false
-  is_unknown w q = rw q
-
--- the prologue by its tests
-module _ (L : LinkType) (want : L4Set) (g : Facts) where
-  pub prereqs_ready : ready_for g.ports_ready want ≡ true → port_prereqs L want g ≡ code [] g
-  unfolding port_prereqs
-  prereqs_ready e = rw e
-
-  module _ (e : ready_for g.ports_ready want ≡ false) where
-    pub prereqs_ip4 : holds g.ethertype 0x0800 ≡ true → port_prereqs L want g ≡ version_for L V4 want g
-    unfolding port_prereqs
-    prereqs_ip4 h = rw (e, h)
-
-    pub prereqs_ip6 : holds g.ethertype 0x0800 ≡ false → holds g.ethertype 0x86dd ≡ true → port_prereqs L want g ≡ version_for L V6 want g
-    unfolding port_prereqs
-    prereqs_ip6 h j = rw (e, h, j)
-
-    pub prereqs_dual : holds g.ethertype 0x0800 ≡ false → holds g.ethertype 0x86dd ≡ false
-        → port_prereqs L want g ≡ dual (ether_proto_offset L) (net_offset L) want g
-    unfolding port_prereqs
-    prereqs_dual h j = rw (e, h, j)
 
 -- ---- hoisted guards
 

@@ -56,6 +56,7 @@ fn l4_len(want: L4Set) -> u8
 }
 
 // A is a protocol of the set.
+#[tactic(auto, unfolding(codegen::specs::Emit::l4_set_check))]
 fn emit_l4_set_check(e: &mut Emitter<'_>, want: L4Set)
     requires { Space 2 e.old }
     ensures { Grows (E.l4_set_check want) e.old e.new }
@@ -177,6 +178,7 @@ fn one_version(e: &mut Emitter<'_>, version: Version, want: L4Set)
 }
 
 // Neither version is known.
+#[tactic(auto, using(emit::proofs::Grow::none))]
 fn dual(e: &mut Emitter<'_>, want: L4Set)
     requires { Space 14 e.old }
     ensures { Grew (E.dual (E.ether_proto_offset e.old.link) (E.net_offset e.old.link) want e.old.facts) e.old e.new }
@@ -188,6 +190,7 @@ fn dual(e: &mut Emitter<'_>, want: L4Set)
 }
 
 // What the test of a port needs: a protocol of the set, and X the header's length.
+#[tactic(auto, using(emit::proofs::Grow::none), unfolding(codegen::specs::Emit::port_prereqs))]
 pub fn emit_port_prereqs_set(e: &mut Emitter<'_>, want: L4Set)
     requires { Space 14 e.old }
     ensures { Grew (E.port_prereqs e.old.link want e.old.facts) e.old e.new }
@@ -205,6 +208,7 @@ pub fn emit_port_prereqs_set(e: &mut Emitter<'_>, want: L4Set)
 // ---- conditions
 
 // A port, by direction.
+#[tactic(auto, using(crate::proofs::Hoisting::prereqs_size))]
 pub fn emit_port(e: &mut Emitter<'_>, dir: Dir, want: L4Set, port: u32)
     requires { Room 20 e.old }
     ensures { Grew (Q.ported_by e.old.link want (E.check_loads dir port (L.load (LdhInd (E.net_offset e.old.link)) None) (L.load (LdhInd (E.net_offset e.old.link + 2)) None)) e.old.facts) e.old e.new }
@@ -216,6 +220,7 @@ pub fn emit_port(e: &mut Emitter<'_>, dir: Dir, want: L4Set, port: u32)
 
 // A range of ports, by direction.
 // Apart from `emit_port`: with either, the two tests of a port are loads whose first succeeds, and those of a range are blocks.
+#[tactic(auto, using(crate::proofs::Hoisting::prereqs_size))]
 pub fn emit_portrange(e: &mut Emitter<'_>, dir: Dir, want: L4Set, lo: u32, hi: u32)
     requires { Room 21 e.old }
     ensures { Grew (Q.ported_by e.old.link want (E.check_blocks dir (E.check_range lo hi (E.net_offset e.old.link)) (E.check_range lo hi (E.net_offset e.old.link + 2))) e.old.facts) e.old e.new }
@@ -250,6 +255,7 @@ fn hoist_l4(e: &mut Emitter<'_>, version: Version, proto: Option<u32>) -> Result
 }
 
 // What the ports need.
+#[tactic(auto, using(crate::proofs::Hoisting::ports_follow))]
 fn hoist_ports(e: &mut Emitter<'_>, ports: Option<L4Set>)
     requires { Space 14 e.old }
     ensures { Follows (E.hoist_ports e.old.link ports) e.old e.new (Ok tt) }

@@ -1,22 +1,22 @@
 use Rattle.std.proofs.Common.{arith}
-use Rattle.std.proofs.lemmas.Result.{err_from_is_err_and}
 use Rattle.emit.proofs.Grow.{space_left, sized_then}
+use Rattle.emit.proofs.Outcome.{handed_on}
 use Rattle.conditions.specs.declared.Version.TheVariants.{V4, V6}
 use Rattle.ports.proofs.Hoisting.{ethertype_size, l4_size, first_refused, second_refused, third_refused, hoisted}
 use Rattle.ports.proofs.emit_or_hoist.Goals as goal
 
 pub returns-in_err-hoist_ethertype : goal.returns-in_err-hoist_ethertype
 returns-in_err-hoist_ethertype c =
-    let p = err_from_is_err_and c.from_residual.result c.from_residual.ensures.1 in
-    rw (p.1, p.2) (first_refused c.args.guards c.hoist_ethertype.ensures c.in_err-hoist_ethertype.was)
+    handed_on c.from_residual.ensures.1
+    (first_refused c.args.guards c.hoist_ethertype.ensures c.in_err-hoist_ethertype.was)
 
 pub hoist_l4-requires : goal.hoist_l4-requires
 hoist_l4-requires c = space_left 2 (omega arith) c.requires (ethertype_size c.args.guards.ethertype c.hoist_ethertype.ensures c.in_ok-hoist_ethertype.was)
 
 pub returns-in_err-hoist_l4 : goal.returns-in_err-hoist_l4
 returns-in_err-hoist_l4 c =
-    let p = err_from_is_err_and c.from_residual-in_err-hoist_l4.result c.from_residual-in_err-hoist_l4.ensures.1 in
-    rw (p.1, p.2) (second_refused c.args.guards c.hoist_ethertype.ensures c.in_ok-hoist_ethertype.was c.hoist_l4.ensures c.in_err-hoist_l4.was)
+    handed_on c.from_residual-in_err-hoist_l4.ensures.1
+    (second_refused c.args.guards c.hoist_ethertype.ensures c.in_ok-hoist_ethertype.was c.hoist_l4.ensures c.in_err-hoist_l4.was)
 
 pub hoist_l4-requires-2 : goal.hoist_l4-requires-2
 hoist_l4-requires-2 c =
@@ -26,8 +26,7 @@ hoist_l4-requires-2 c =
 
 pub returns-in_err-hoist_l4-2 : goal.returns-in_err-hoist_l4-2
 returns-in_err-hoist_l4-2 c =
-    let p = err_from_is_err_and c.from_residual-in_err-hoist_l4-2.result c.from_residual-in_err-hoist_l4-2.ensures.1 in
-    rw (p.1, p.2)
+    handed_on c.from_residual-in_err-hoist_l4-2.ensures.1
     (third_refused c.args.guards c.hoist_ethertype.ensures c.in_ok-hoist_ethertype.was c.hoist_l4.ensures c.in_ok-hoist_l4.was c.hoist_l4-2.ensures c.in_err-hoist_l4-2.was)
 
 pub hoist_ports-requires : goal.hoist_ports-requires

@@ -1,13 +1,7 @@
-use Rattle.std.proofs.Common.{arith, ◌+◌}
+use Rattle.std.proofs.Common.{◌+◌}
 use Rattle.codegen.specs.Emit.{check_blocks, check_range}
-use Rattle.emit.proofs.Grow.{sized, room_left}
-use Rattle.ports.proofs.Hoisting.{prereqs_short, then_at}
+use Rattle.ports.proofs.Hoisting.{then_at}
 use Rattle.ports.proofs.emit_portrange.Goals as goal
-
-pub check_sides-requires-clause-room : goal.check_sides-requires-clause-room
-check_sides-requires-clause-room c =
-    let e = c.args.e.now in
-    room_left 14 (omega arith) c.requires (sized 14 (prereqs_short e.link c.args.want e.facts) c.emit_port_prereqs_set.ensures)
 
 pub returns : goal.returns
 returns c =
