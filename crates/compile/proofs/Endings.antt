@@ -1,5 +1,8 @@
 -- The open exits of a program's block go to the two returns.
-use Rattle.std.proofs.Common.{◌≡◌, refl, sym, ap, ◌∙◌, List, [], ◌∷◌, ◌++◌, map, length, take, set, Bool, true, false, cond, ◌||◌, ℕ, suc, ◌+◌, ◌<◌, ◌≤◌, subst, append_assoc, add-one, arith, Ok, Err}
+use Rattle.std.proofs.Common.{◌≡◌, refl, sym, ap, ◌∙◌, List, [], ◌∷◌, ◌++◌, map, length, take, set, Bool, true, false, cond, ℕ, suc, ◌+◌, ◌<◌, ◌≤◌, subst, append_assoc, add-one, arith, Ok, Err}
+use mathlib.Core.Logic.{⊎_elim}
+use Rattle.std.proofs.lemmas.Bool.{or_cases, or_right}
+use Rattle.std.proofs.lemmas.List.{length-map}
 use lib.Dec.{ltb}
 use borrow.Author.Tests.{ltb-true}
 use lib.ListN.{drop, length-append, length-set}
@@ -32,10 +35,6 @@ use Rattle.compile.specs.Walks.{Begun, Ready, Fresh, Ended, Holds, Compiles}
 
 -- ---- what is far stays far
 
-or_right : (a b : Bool) → b ≡ true → a || b ≡ true
-or_right true b e = refl
-or_right false b e = e
-
 far_exit : (e : Side) (n : ℕ) (q : Exit) → ltb 255 (distance q) ≡ true → ltb 255 (distance (swap e (Skip n) q)) ≡ true
 far_exit e n (Skip m) h = h
 far_exit e n (Leave p) h = absurd (omega (arith, ltb-true 255 0 h))
@@ -45,15 +44,11 @@ far_line_lem e n (Plain o) h = h
 far_line_lem e n (Branch t k s q) h = far_exit e n q h
 far_line_lem e n (Jump q) h = far_exit e n q h
 
-or_cases : (a b : Bool) (P : Type 0) → (a ≡ true → P) → (b ≡ true → P) → a || b ≡ true → P
-or_cases true b P f g e = f refl
-or_cases false b P f g e = g e
-
 far_settle : (e : Side) (d : ℕ) (B : Block) → far B ≡ true → far (settle e d B) ≡ true
 unfolding far settle
 far_settle e d [] h = h
 far_settle e d (l ∷ B) h =
-    or_cases (far_line l) (far B) _ (λ f. rw (far_line_lem e (length B + d) l f)) (λ f. or_right (far_line (swap_line e (Skip (length B + d)) l)) (far (settle e d B)) (far_settle e d B f)) h
+    ⊎_elim (λ f. rw (far_line_lem e (length B + d) l f)) (λ f. or_right (far_line (swap_line e (Skip (length B + d)) l)) (far (settle e d B)) (far_settle e d B f)) (or_cases (far_line l) (far B) h)
 
 -- ---- the two settlings, of a block that was added from the start
 
@@ -96,10 +91,6 @@ module _ {e f : Emitter} {r : Out (Unit {0})} (z : Settled Success 0 0 e f r) (c
     unfolding finished
     twice o = settled_near (finished c.block) f.facts d h (settled once.grew 1 Failure (omega (arith, s.failure)) (subst (λ (m : ℕ). Settled Failure m 1 f h t) (sym s.failure) y)) o
 
-    map_length : (b : Block) → length (map assemble b) ≡ length b
-    map_length [] = refl
-    map_length (l ∷ b) = ap suc (map_length b)
-
     take_two : (I : List Insn) (n : ℕ) (v w : Insn) → n + 1 + 1 ≤ length I → take (n + 1 + 1) (set (set I n v) (n + 1) w) ≡ take n I ++ (v ∷ w ∷ [])
     take_two I n v w k =
         let J = set I n v in
@@ -113,7 +104,7 @@ module _ {e f : Emitter} {r : Out (Unit {0})} (z : Settled Success 0 0 e f r) (c
     program o {i} {j} u v =
         let n = twice o in
         let b = finished c.block in
-        let m = map_length b in
+        let m = length-map b assemble in
         rw n.near (record {
           is = record {
             row =

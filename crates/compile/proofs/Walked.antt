@@ -19,9 +19,9 @@ use Rattle.codegen.specs.Emit.{Code, code, or_hoist, restored_after, emit}
 use Rattle.codegen.proofs.Shape.{Fits, weight, guards_small, tree_shape, hoist_shape}
 use Rattle.emit.specs.declared.Emitter.{Emitter}
 use Rattle.emit.specs.Grown.{Room, Grew, Turned, Replies, Open, Otherwise, coded, stack_of}
-use Rattle.emit.proofs.Grow.{Sized, sized}
+use Rattle.emit.proofs.Grow.{Sized, sized, knowing}
 use Rattle.emit.proofs.Settling.{opened, refacts, turn_far, turn_grew}
-use Rattle.emit.proofs.Outcome.{Went, reply_done, answer, knowing, bind_refused, after, after_reply}
+use Rattle.emit.proofs.Outcome.{Went, reply_done, answer, bind_refused, after, after_reply}
 use Rattle.emit.proofs.Joins.{Near, settled_near, settled_far, settled_refused, after_facts, wrote}
 use Rattle.guards.specs.declared.Note.{Note}
 use Rattle.reader.specs.Reader.{tree_of, end_of, Here}

@@ -1,5 +1,4 @@
 use Rattle.std.proofs.Common.{Ok, ◌+◌, ◌∙◌, ap, refl, length, ◌≤◌, arith}
-use Rattle.std.proofs.lemmas.Result.{err_from_is_err_and}
 use Rattle.codegen.specs.declared.Side.TheVariants.{Success, Failure}
 use Rattle.codegen.specs.Block.{settle}
 use Rattle.codegen.specs.Guards.{required_guards}
@@ -8,7 +7,7 @@ use Rattle.codegen.proofs.Semantics.{length_settle}
 use Rattle.codegen.proofs.Shape.{weight}
 use Rattle.emit.proofs.Grow.{sized, room_left}
 use Rattle.emit.proofs.Settling.{settled, otherwise_size}
-use Rattle.emit.proofs.Outcome.{reply_done, reply_refused, bind_refused, turned_down}
+use Rattle.emit.proofs.Outcome.{reply_done, reply_refused, handed_on, bind_refused, turned_down}
 use Rattle.emit.proofs.Joins.{settled_near, settled_then, settled_refused}
 use Rattle.reader.specs.Reader.{tree_of, end_of}
 use Rattle.reader.proofs.Here.{here_and, here_or, here_not, here_leaf}
@@ -21,8 +20,7 @@ pub emit_and-returns-in_err-emit_expr : goal.emit_and-returns-in_err-emit_expr
 unfolding emit
 emit_and-returns-in_err-emit_expr t c =
     let v = c.requires.parts in
-    let p = err_from_is_err_and c.from_residual.result c.from_residual.ensures.1 in
-    rw (p.1, p.2, v.tree) (bind_refused c.emit_expr.ensures c.in_err-emit_expr.was _)
+    handed_on c.from_residual.ensures.1 (rw v.tree (bind_refused c.emit_expr.ensures c.in_err-emit_expr.was _))
 
 pub emit_and-settle-requires : goal.emit_and-settle-requires
 emit_and-settle-requires t c =
@@ -39,10 +37,9 @@ pub emit_and-returns-in_err-settle : goal.emit_and-returns-in_err-settle
 unfolding emit
 emit_and-returns-in_err-settle t c =
     let p = c.requires.parts in
-    let q = err_from_is_err_and c.from_residual-in_err-settle.result c.from_residual-in_err-settle.ensures.1 in
     let w = reply_done c.emit_expr.ensures c.in_ok-emit_expr.was in
-    rw (q.1, q.2, p.tree)
-    (settled_refused w (settle Success 0) _ (settled w.grew 0 Success (omega (arith, c.requires.room.successes)) c.settle.ensures) c.in_err-settle.was _)
+    handed_on c.from_residual-in_err-settle.ensures.1 (rw p.tree
+    (settled_refused w (settle Success 0) _ (settled w.grew 0 Success (omega (arith, c.requires.room.successes)) c.settle.ensures) c.in_err-settle.was _))
 
 pub emit_and-emit_expr-requires-2 : goal.emit_and-emit_expr-requires-2
 emit_and-emit_expr-requires-2 t c =
@@ -75,9 +72,8 @@ pub emit_or-returns-in_err-emit_or_hoist : goal.emit_or-returns-in_err-emit_or_h
 emit_or-returns-in_err-emit_or_hoist t c =
     let a = c.args in
     let p = c.requires.parts in
-    let q = err_from_is_err_and c.from_residual.result c.from_residual.ensures.1 in
     let g = noted_guards c.requires.walk p ∙ ap required_guards p.tree in
-    rw (q.1, q.2, p.tree) (or_refused a.e.now.link _ _ a.e.now.facts (reply_refused (rw g at c.emit_or_hoist.ensures) c.in_err-emit_or_hoist.was))
+    handed_on c.from_residual.ensures.1 (rw p.tree (or_refused a.e.now.link _ _ a.e.now.facts (reply_refused (rw g at c.emit_or_hoist.ensures) c.in_err-emit_or_hoist.was)))
 
 pub emit_or-emit_arms-requires : goal.emit_or-emit_arms-requires
 emit_or-emit_arms-requires t c =
@@ -129,9 +125,8 @@ emit_arms-emit_expr-requires-2 t c =
 pub emit_arms-returns-in_err-otherwise : goal.emit_arms-returns-in_err-otherwise
 emit_arms-returns-in_err-otherwise t c =
     let a = c.args in
-    let q = err_from_is_err_and c.from_residual-in_err-otherwise.result c.from_residual-in_err-otherwise.ensures.1 in
     let w = reply_done c.emit_expr.ensures c.in_ok-emit_expr.was in
-    rw (q.1, q.2) (arms_refused a.e.now.link _ _ a.e.now.facts w c.otherwise.ensures (omega (arith, c.requires.room.failures)) c.in_err-otherwise.was)
+    handed_on c.from_residual-in_err-otherwise.ensures.1 (arms_refused a.e.now.link _ _ a.e.now.facts w c.otherwise.ensures (omega (arith, c.requires.room.failures)) c.in_err-otherwise.was)
 
 pub emit_arms-returns-in_err-emit_expr-2 : goal.emit_arms-returns-in_err-emit_expr-2
 emit_arms-returns-in_err-emit_expr-2 t c =
@@ -139,11 +134,10 @@ emit_arms-returns-in_err-emit_expr-2 t c =
     let v = c.requires.walk in
     let p = c.requires.parts in
     let r = tree_of a.self.tree.now (end_of a.self.tree.now (a.i + 1)) in
-    let q = err_from_is_err_and c.from_residual-in_err-emit_expr-2.result c.from_residual-in_err-emit_expr-2.ensures.1 in
     let w = reply_done c.emit_expr.ensures c.in_ok-emit_expr.was in
     let h : a.e.now.failure.len ≤ length a.e.now.failure.patches.now = omega (arith, c.requires.room.failures) in
     let n = arms_left a.e.now.link _ r a.e.now.facts w c.otherwise.ensures h c.in_ok-otherwise.was in
-    rw (q.1, q.2)
+    handed_on c.from_residual-in_err-emit_expr-2.ensures.1
     (arms_done a.e.now.link _ r a.e.now.facts w c.otherwise.ensures h c.in_ok-otherwise.was c.restored-e.ensures
     (right_refused c.emit_expr.new.e.facts n.grew.link (ap (tree_of a.self.tree.now) (noted_end v p)) refl c.emit_expr-2.ensures c.in_err-emit_expr-2.was))
 
@@ -165,8 +159,7 @@ pub emit_not-returns-in_err-emit_expr : goal.emit_not-returns-in_err-emit_expr
 unfolding emit
 emit_not-returns-in_err-emit_expr t c =
     let a = c.args in
-    let q = err_from_is_err_and c.from_residual.result c.from_residual.ensures.1 in
-    rw (q.1, q.2, c.requires.part.tree, reply_refused (turned_emit (tree_of a.self.tree.now (a.i + 1)) c.turn.ensures c.emit_expr.ensures) c.in_err-emit_expr.was) (turned_down _ _)
+    handed_on c.from_residual.ensures.1 (rw (c.requires.part.tree, reply_refused (turned_emit (tree_of a.self.tree.now (a.i + 1)) c.turn.ensures c.emit_expr.ensures) c.in_err-emit_expr.was) (turned_down _ _))
 
 pub emit_not-otherwise-requires-clause-room : goal.emit_not-otherwise-requires-clause-room
 emit_not-otherwise-requires-clause-room t c =
@@ -190,10 +183,9 @@ emit_not-otherwise-requires-clause-open t c =
 pub emit_not-returns-in_err-otherwise : goal.emit_not-returns-in_err-otherwise
 emit_not-returns-in_err-otherwise t c =
     let a = c.args in
-    let q = err_from_is_err_and c.from_residual-in_err-otherwise.result c.from_residual-in_err-otherwise.ensures.1 in
     let y = turned_room c.turn.ensures c.requires.room in
     let w = reply_done (turned_emit (tree_of a.self.tree.now (a.i + 1)) c.turn.ensures c.emit_expr.ensures) c.in_ok-emit_expr.was in
-    rw (q.1, q.2, c.requires.part.tree) (not_refused a.e.now.link _ a.e.now.facts c.turn.ensures w c.otherwise.ensures (omega (arith, y.failures)) c.in_err-otherwise.was)
+    handed_on c.from_residual-in_err-otherwise.ensures.1 (rw c.requires.part.tree (not_refused a.e.now.link _ a.e.now.facts c.turn.ensures w c.otherwise.ensures (omega (arith, y.failures)) c.in_err-otherwise.was))
 
 pub emit_not-returns : goal.emit_not-returns
 emit_not-returns t c =
