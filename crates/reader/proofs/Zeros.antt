@@ -22,9 +22,6 @@ be_join m (suc n) at s =
 pub be_halves : (at o : ℕ) (s : List ℕ) → be 4 (at + o) s ≡ be 2 (at + o) s * 65536 + be 2 (at + (o + 2)) s
 be_halves at o s = be_join 2 2 (at + o) s ∙ ap (λ p. be 2 (at + o) s * 65536 + be 2 p s) (omega arith)
 
-at_place : (n : ℕ) {a b : ℕ} (s : List ℕ) → a ≡ b → be n a s ≡ be n b s
-at_place n s e = ap (λ a. be n a s) e
-
 positive : (n : ℕ) → 1 ≤ 256 ^ n
 positive zero = omega arith
 positive (suc n) = omega (arith, positive n, pow-suc 256 n)

@@ -319,6 +319,7 @@ impl<'a> WholeRecord<'a> {
     }
 
     // Its kind, where it is good.
+    #[tactic(auto, using(crate::proofs::Found::kind_known, crate::proofs::Found::node_of_kind))]
     fn kind(self) -> Kind
         requires { IsOk (node_at (place self.reader.index) self.reader.tree.now) }
         ensures { node_at (place self.entry.reader.index) self.entry.reader.tree.now ≡ Ok ((C.row result).node (C.fields self.entry.reader)) }
@@ -380,6 +381,7 @@ impl<'a> WholeRecord<'a> {
     }
 
     // The bytes of its address from the n-th on are zero: word by word, since a chain over the bytes takes up to sixteen steps.
+    #[tactic(auto, unfolding(crate::specs::Checking::unused, bpf::specs::Bytes::be))]
     fn unused_zero(self, n: usize) -> bool
         ensures { result ≡ C.unused n (C.fields self.entry.reader).address }
     {
@@ -459,7 +461,7 @@ fn marked(tree: &[u8]) -> bool
 }
 
 // Number 1, or the link.
-#[tactic(auto, using(std::proofs::lemmas::Bool::Decides::nat_tests), unfolding(ast::specs::File::header))]
+#[tactic(auto, using(bpf::proofs::Bytes::be_first, std::proofs::lemmas::Bool::Decides::nat_tests), unfolding(ast::specs::File::header))]
 pub fn header(tree: &[u8]) -> Result<LinkType, Refusal>
     ensures { result ≡ F.header tree.now }
 {
@@ -495,6 +497,7 @@ fn good_records(tree: &[u8], n: usize) -> Result<(), Refusal>
 }
 
 // Number 4. From the last record back, the trees that stand so far: a record takes its parts from them and is one more.
+#[tactic(auto, using(crate::proofs::Forests::one_start, crate::proofs::Forests::good_at, crate::proofs::Forests::one_turn, crate::proofs::Forests::one_end, crate::proofs::Forests::other_end))]
 fn one_tree(tree: &[u8], n: usize) -> Result<(), Refusal>
     requires { C.Good tree.now n }
     ensures { result ≡ C.passed (C.whole_tree tree.now) }
@@ -516,6 +519,7 @@ fn one_tree(tree: &[u8], n: usize) -> Result<(), Refusal>
 }
 
 // The link of a file that passes checks 1, 2, 3 and 4, or the first refusal.
+#[tactic(auto, using(crate::proofs::Checks::header_refused, crate::proofs::Checks::header_long, crate::proofs::Checks::count_refused, crate::proofs::Checks::few_records, crate::proofs::Checks::good_file, crate::proofs::Checks::tree_passed))]
 pub fn check(tree: &[u8]) -> Result<LinkType, Refusal>
     ensures { result ≡ checked (F.parse tree.now) }
 {

@@ -1,7 +1,4 @@
-use Rattle.std.proofs.Common.{tests, rules}
 use Rattle.std.proofs.Common.{◌∙◌, arith}
-use Rattle.bpf.specs.Bytes.{be}
-use Rattle.reader.specs.Checking.{unused}
 use Rattle.reader.proofs.Fields.{unused_0, unused_4, unused_6, unused_8}
 use Rattle.reader.proofs.Zeros.{zero_then, zero_not}
 use Rattle.reader.proofs.WholeRecord.unused_zero.Goals as goal
@@ -23,11 +20,3 @@ returns-else-half-eq0 c = rw (c.in-6.is, unused_6) (zero_not 2 8 _ _ c.half.ensu
 
 pub returns-in-8 : goal.returns-in-8
 returns-in-8 c = rw (c.in-8.is, unused_8) c.end_zero-in-8.ensures
-
-pub returns-in-16 : goal.returns-in-16
-unfolding unused be
-returns-in-16 c = rw c.in-16.is
-
-pub returns-in_default : goal.returns-in_default
-unfolding unused
-returns-in_default c = search (tests, rules)
