@@ -75,6 +75,7 @@ fn primitive_guards(p: Primitive) -> GuardSet
 // ---- a tree
 
 // The note of record i, where those after it are noted. "A negated check proves nothing about what its parent requires".
+#[tactic(auto, using(reader::proofs::Here::here_and, reader::proofs::Here::here_or, reader::proofs::Here::here_not, crate::proofs::Noting::and_note, crate::proofs::Noting::or_note, crate::proofs::Noting::not_note))]
 fn note_at(tree: &[u8], notes: &[Note], i: usize) -> Note
     requires { N.Next tree.now notes.now i }
     ensures { result ≡ N.note_of tree.now i }
