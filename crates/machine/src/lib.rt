@@ -232,6 +232,13 @@ fn ret(v: u32) -> Verdict
     }
 }
 
+// What a run that ends answers.
+fn ended(verdict: Verdict, steps: u32) -> Outcome
+    ensures { result ≡ M.ended verdict steps }
+{
+    Outcome { verdict, steps }
+}
+
 // ---- any code
 
 impl<'a> State<'a> {
@@ -496,21 +503,15 @@ impl<'a> Job<'a> {
                 Effect::Store(k, v) => {
                     let slot = k as usize;
                     if 16 <= slot {
-                        return Outcome {
-                            verdict: Verdict::Broken,
-                            steps,
-                        };
+                        return ended(Verdict::Broken, steps);
                     }
                     scratch[slot] = v;
                 }
                 Effect::Skip(n) => pc += n as usize,
-                Effect::Stop(verdict) => return Outcome { verdict, steps },
+                Effect::Stop(verdict) => return ended(verdict, steps),
             }
         }
-        Outcome {
-            verdict: Verdict::Broken,
-            steps,
-        }
+        ended(Verdict::Broken, steps)
     }
 
     // A whole run; the scratch words stay zero until a code comes that this loop does not know.
@@ -547,31 +548,13 @@ impl<'a> Job<'a> {
                     steps += 2;
                     at += 16 + self.skipped(at + 11);
                 }
-                Way::Accepted => {
-                    return Outcome {
-                        verdict: Verdict::Accepted,
-                        steps: steps + 1,
-                    };
-                }
-                Way::Dropped => {
-                    return Outcome {
-                        verdict: Verdict::Dropped,
-                        steps: steps + 1,
-                    };
-                }
-                Way::Short => {
-                    return Outcome {
-                        verdict: Verdict::Short,
-                        steps: steps + 1,
-                    };
-                }
+                Way::Accepted => return ended(Verdict::Accepted, steps + 1),
+                Way::Dropped => return ended(Verdict::Dropped, steps + 1),
+                Way::Short => return ended(Verdict::Short, steps + 1),
                 Way::Other => return self.general(at / 8, registers, steps),
             }
         }
-        Outcome {
-            verdict: Verdict::Broken,
-            steps,
-        }
+        ended(Verdict::Broken, steps)
     }
 }
 

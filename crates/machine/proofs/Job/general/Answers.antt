@@ -11,43 +11,33 @@ use Rattle.machine.proofs.Job.general.Goals as goal
 -- the run that the effect e leaves is the whole run
 left : (s f m : List ℕ) (pc t a x : ℕ) {i : Insn} {r e : Effect} {whole : Outcome} → pc < length s / 8 → i ≡ insn_at (8 * pc) s → r ≡ effect f m i a x → r ≡ e
     → from s f pc t a x m ≡ whole → goes s f e pc t a x m ≡ whole
-left s f m pc t a x {e = e} more read does is same = sym (run_turn s f pc t a x m e more (sym is ∙ does ∙ ap (λ j. effect f m j a x) read)) ∙ same
+left s f m pc t a x {e = e} more read does is same =
+    sym (run_turn s f pc t a x m e more (sym is ∙ does ∙ ap (λ j. effect f m j a x) read)) ∙ same
 
 pub loop-pc-preserved-in-SetA : goal.loop-pc-preserved-in-SetA
 loop-pc-preserved-in-SetA c =
-    let l = c.loop-pc in
-    let k = left c.args.self.now.program.now c.args.self.now.frame.now l.scratch l.pc l.steps l.registers.a l.registers.x c.loop-pc-test.true c.insn_at.ensures c.effect-effect.ensures c.in-SetA.is l.invariant.1 in
-    (omega arith, k)
+    (omega arith, left _ _ _ _ _ _ _ c.loop-pc-test.true c.insn_at.ensures c.effect-effect.ensures c.in-SetA.is c.loop-pc.invariant.1)
 
 pub loop-pc-preserved-in-SetX : goal.loop-pc-preserved-in-SetX
 loop-pc-preserved-in-SetX c =
-    let l = c.loop-pc in
-    let k = left c.args.self.now.program.now c.args.self.now.frame.now l.scratch l.pc l.steps l.registers.a l.registers.x c.loop-pc-test.true c.insn_at.ensures c.effect-effect.ensures c.in-SetX.is l.invariant.1 in
-    (omega arith, k)
+    (omega arith, left _ _ _ _ _ _ _ c.loop-pc-test.true c.insn_at.ensures c.effect-effect.ensures c.in-SetX.is c.loop-pc.invariant.1)
 
 pub loop-pc-preserved-in-Store : goal.loop-pc-preserved-in-Store
 loop-pc-preserved-in-Store c =
-    let l = c.loop-pc in
-    let k = left c.args.self.now.program.now c.args.self.now.frame.now l.scratch l.pc l.steps l.registers.a l.registers.x c.loop-pc-test.true c.insn_at.ensures c.effect-effect.ensures c.in-Store.is l.invariant.1 in
+    let k = left _ _ _ _ _ _ _ c.loop-pc-test.true c.insn_at.ensures c.effect-effect.ensures c.in-Store.is c.loop-pc.invariant.1 in
     (omega arith, simp (lt-ltb _ _ c.if-slot-ge16.false) at k)
 
 pub returns-then-slot-ge16 : goal.returns-then-slot-ge16
 returns-then-slot-ge16 c =
-    let l = c.loop-pc in
-    let k = left c.args.self.now.program.now c.args.self.now.frame.now l.scratch l.pc l.steps l.registers.a l.registers.x c.loop-pc-test.true c.insn_at.ensures c.effect-effect.ensures c.in-Store.is l.invariant.1 in
-    simp (le-ltb _ _ c.if-slot-ge16.true) at k
+    let k = left _ _ _ _ _ _ _ c.loop-pc-test.true c.insn_at.ensures c.effect-effect.ensures c.in-Store.is c.loop-pc.invariant.1 in
+    c.ended.ensures ∙ simp (le-ltb _ _ c.if-slot-ge16.true) at k
 
 pub loop-pc-preserved : goal.loop-pc-preserved
 loop-pc-preserved c =
-    let l = c.loop-pc in
-    let k = left c.args.self.now.program.now c.args.self.now.frame.now l.scratch l.pc l.steps l.registers.a l.registers.x c.loop-pc-test.true c.insn_at.ensures c.effect-effect.ensures c.in-Skip.is l.invariant.1 in
-    (omega arith, k)
+    (omega arith, left _ _ _ _ _ _ _ c.loop-pc-test.true c.insn_at.ensures c.effect-effect.ensures c.in-Skip.is c.loop-pc.invariant.1)
 
 pub returns-in-Stop : goal.returns-in-Stop
-returns-in-Stop c =
-    let l = c.loop-pc in
-    let k = left c.args.self.now.program.now c.args.self.now.frame.now l.scratch l.pc l.steps l.registers.a l.registers.x c.loop-pc-test.true c.insn_at.ensures c.effect-effect.ensures c.in-Stop.is l.invariant.1 in
-    k
+returns-in-Stop c = c.ended-in-Stop.ensures ∙ left _ _ _ _ _ _ _ c.loop-pc-test.true c.insn_at.ensures c.effect-effect.ensures c.in-Stop.is c.loop-pc.invariant.1
 
 pub returns : goal.returns
-returns c = let l = c.loop-pc in sym (run_past c.args.self.now.program.now c.args.self.now.frame.now l.pc l.steps l.registers.a l.registers.x l.scratch c.loop-pc-test.false) ∙ l.invariant.1
+returns c = c.ended-2.ensures ∙ sym (run_past _ _ _ _ _ _ _ c.loop-pc-test.false) ∙ c.loop-pc.invariant.1
