@@ -1,22 +1,8 @@
 -- A packet load, at any width.
-use Rattle.std.proofs.Common.{◌≡◌, ℕ, zero, suc, ◌+◌, ◌≤◌, Bool, true, false, cond, List, Ok, Err, length, take, drop, leb, refl, arith, ◌-◌, length-take, length-drop}
+use Rattle.std.proofs.Common.{◌≡◌, ℕ, zero, suc, ◌+◌, ◌≤◌, List, length, take, drop, refl, arith, ◌-◌, length-take, length-drop}
 use Rattle.std.proofs.Math.Nat.{zero-add}
 use Rattle.std.proofs.lemmas.List.{get_or-take, get_or-drop}
 use Rattle.bpf.specs.Bytes.{be}
-use Rattle.vm.specs.declared.Effect.{Effect}
-use Rattle.vm.specs.declared.Verdict.{Verdict}
-use Rattle.vm.specs.declared.Verdict.TheVariants.{Short}
-use Rattle.vm.specs.Machine.{load}
-use Rattle.machine.specs.Runs.{loaded, settled}
-
--- what is found settles what a load does
-pub load_settles : (n at : ℕ) (f : List ℕ) (to : ℕ → Effect) → settled to (loaded n at f) ≡ load n at f to
-unfolding load
-load_settles n at f to = at_test (leb (at + n) (length f))
-  where
-    at_test : (b : Bool) → settled to (cond b (Ok (be n at f)) (Err Short)) ≡ cond b (to (be n at f)) (settled to (Err Short))
-    at_test true = refl
-    at_test false = refl
 
 -- the number of the part that a load takes
 part_number : (m n at : ℕ) (f : List ℕ) → m ≤ n → be m 0 (take n (drop at f)) ≡ be m at f
@@ -32,11 +18,3 @@ part_be n at f h = rw (width, long) (part_number n n at f (omega arith))
 
     long : length (take n (drop at f)) ≡ n
     long = omega (arith, length-take n (drop at f), length-drop at f)
-
--- what is not found is short
-pub loaded_err : (n at : ℕ) (f : List ℕ) {v : Verdict} → loaded n at f ≡ Err v → loaded n at f ≡ Err Short
-loaded_err n at f h = at_test (leb (at + n) (length f)) h
-  where
-    at_test : (b : Bool) {v : Verdict} → cond b (Ok (be n at f)) (Err Short) ≡ Err v → cond b (Ok (be n at f)) (Err Short) ≡ Err Short
-    at_test true h = absurd cc
-    at_test false h = refl

@@ -83,21 +83,17 @@ pub record Goes (s f : List ℕ) (at : ℕ) (before : ℕ → Outcome) (w : Way)
   pub same : (t : ℕ) → before t ≡ went w s f at t g.a g.x
 
 -- the run from the instruction at a place
-abbrev pub Turns : List ℕ → List ℕ → ℕ → Registers → Way → Registers → Type 0
+unfoldable pub Turns : List ℕ → List ℕ → ℕ → Registers → Way → Registers → Type 0
 Turns s f at g w r = Goes s f at (λ t. from s f (at / 8) t g.a g.x zeros) w r
 
 -- the run that an effect of that instruction leaves
-abbrev pub Follows : List ℕ → List ℕ → ℕ → Registers → Effect → Way → Registers → Type 0
+unfoldable pub Follows : List ℕ → List ℕ → ℕ → Registers → Effect → Way → Registers → Type 0
 Follows s f at g e w r = Goes s f at (λ t. goes s f e (at / 8) t g.a g.x zeros) w r
 
 -- wherever the instruction's effect is this one
-abbrev pub Settles : Effect → Registers → Way → Registers → Type 0
+unfoldable pub Settles : Effect → Registers → Way → Registers → Type 0
 Settles e g w r = (s f : List ℕ) (at : ℕ) → At s at → ((t : ℕ) → from s f (at / 8) t g.a g.x zeros ≡ goes s f e (at / 8) t g.a g.x zeros) → Turns s f at g w r
 
--- wherever an instruction with this code and this number stands
-abbrev pub Anywhere : ℕ → ℕ → Registers → Way → Registers → Type 0
-Anywhere code k g w r = (s f : List ℕ) (at : ℕ) → At s at → code ≡ le_at 2 at s → k ≡ le_at 4 (at + 4) s → Turns s f at g w r
-
 -- the run from the instruction after it, which is the second of two
-abbrev pub Next : List ℕ → ℕ → ℕ → Way → Type 0
+unfoldable pub Next : List ℕ → ℕ → ℕ → Way → Type 0
 Next s at a w = (f : List ℕ) (x : ℕ) → Goes s f at (λ t. from s f (at / 8 + 1) (t + 1) a x zeros) w (record { a = a; x = x })

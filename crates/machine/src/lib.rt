@@ -1,10 +1,11 @@
 // The classic BPF machine: vm.rs, over the bytes of a program and of a frame.
 #![tactic(auto)]
 
-ghost use Rattle.std.specs.Prelude.{◌≡◌, ℕ, ◌+◌, ◌*◌, ◌/◌, ◌%◌, ◌^◌, ◌<◌, ◌≤◌, not, ◌||◌, length, replicate, if◌then◌else◌, ◌==◌, nat_eq, nat_lt, slice_index};
+ghost use Rattle.std.specs.Prelude.{◌≡◌, ℕ, List, ◌+◌, ◌*◌, ◌/◌, ◌%◌, ◌^◌, ◌<◌, ◌≤◌, not, ◌||◌, length, replicate, if◌then◌else◌, ◌==◌, nat_eq, nat_lt, slice_index};
 ghost use Rattle.bpf.specs.Bytes.{be, le_at};
+ghost use Rattle.bpf.specs.Program.{insn};
 ghost use Rattle.vm.specs.Machine as M;
-ghost use Rattle.machine.specs.Runs.{loaded, settled, from, zeros, At, Next, Follows, Settles, Turns, Anywhere};
+ghost use Rattle.machine.specs.Runs.{loaded, settled, from, zeros, At, Next, Follows, Settles, Turns};
 ghost use Rattle.machine.specs.declared.Way.TheVariants.{Taken, Missed};
 ghost use Rattle.vm.specs.declared.Verdict.TheVariants.{Accepted, Dropped};
 ghost use Rattle.vm.specs.declared.Effect.TheVariants.{SetA, SetX, Skip, Stop};
@@ -132,6 +133,7 @@ struct State<'a> {
 }
 
 // The big-endian number of at most four bytes.
+#[tactic(auto, unfolding(bpf::specs::Bytes::be))]
 fn number(bytes: &[u8]) -> u32
     requires { length bytes.now ≤ 4 }
     ensures { result ≡ be (length bytes.now) 0 bytes.now }
@@ -144,6 +146,7 @@ fn number(bytes: &[u8]) -> u32
 }
 
 // A packet load of any width.
+#[tactic(auto, using(crate::proofs::Loads::part_be))]
 fn load<const N: usize>(frame: &[u8], at: u32) -> Result<u32, Verdict>
     requires { N ≤ 4 }
     ensures { result ≡ loaded N at frame.now }
@@ -346,6 +349,7 @@ fn test(taken: bool) -> Way
 
 impl Registers {
     // An effect on A or X, or a verdict. A store, a skip and what is broken are left for the general loop.
+    #[tactic(auto, unfolding(crate::specs::Runs::Settles, crate::specs::Runs::Turns))]
     fn make(&mut self, effect: Effect) -> Way
         ensures { Settles effect self.old result self.new }
     {
@@ -374,8 +378,9 @@ impl Registers {
 
     // Other codes that use no scratch word. A code is a row, whose jump goes straight to its operation: one rule over a code's fields
     // jumps twice, and makes arithmetic 1.3 to 1.7 times as slow.
+    #[tactic(auto, using(crate::proofs::Ways::left), unfolding(vm::specs::Machine::effect))]
     fn rest(&mut self, code: u16, k: u32) -> Way
-        ensures { Anywhere code k self.old result self.new }
+        ensures { (f : List ℕ) (jt jf : ℕ) → Settles (M.effect f zeros (insn code jt jf k) self.old.a self.old.x) self.old result self.new }
     {
         match code {
             0x04 => self.alu(ADD, k),
@@ -408,6 +413,7 @@ impl Registers {
 impl<'a> Job<'a> {
     // After a load: a test of A that follows is made at once.
     // The place is a clause: it is another at each turn.
+    #[tactic(auto, using(crate::proofs::Ways::next_on, crate::proofs::Ways::next_test))]
     fn next(&self, at: usize, a: u32) -> Way
         requires { At self.now.program.now at }
         ensures { Next self.now.program.now at a result }
@@ -426,6 +432,7 @@ impl<'a> Job<'a> {
     }
 
     // A packet load into A, of any width.
+    #[tactic(auto, using(crate::proofs::Ways::loaded_then, crate::proofs::Ways::loaded_out))]
     fn load_then<const N: usize>(&self, at: usize, place: u32, registers: &mut Registers) -> Way
         requires { At self.now.program.now at × (N ≤ 4) }
         ensures { Follows self.now.program.now self.now.frame.now at registers.old (M.load N place self.now.frame.now SetA) result registers.new }
@@ -441,6 +448,7 @@ impl<'a> Job<'a> {
 
     // The instruction whose bytes start at a place, by its code.
     // A code is any 16-bit number, and none is refused, so the codes are rows and no enum.
+    #[tactic(auto, using(crate::proofs::Ways::turned, crate::proofs::Ways::placed, crate::proofs::Ways::jumped), unfolding(bpf::specs::Program::insn_at, vm::specs::Machine::effect, vm::specs::Machine::ld, vm::specs::Machine::ldx, vm::specs::Machine::sized_load, vm::specs::Machine::jmp))]
     fn turn(&self, at: usize, registers: &mut Registers) -> Way
         requires { At self.now.program.now at }
         ensures { Turns self.now.program.now self.now.frame.now at registers.old result registers.new }
@@ -478,6 +486,7 @@ impl<'a> Job<'a> {
     }
 
     // The run from a counter on, with any code; the scratch words are still zero.
+    #[tactic(auto, using(crate::proofs::Onward::run_on, crate::proofs::Onward::run_past, std::proofs::lemmas::Bool::Decides::nat_tests))]
     fn general(&self, start: usize, registers: Registers, made: u32) -> Outcome
         requires { (made ≤ start) × (start ≤ 4096) }
         ensures { result ≡ from self.now.program.now self.now.frame.now start made registers.a registers.x zeros }
@@ -515,6 +524,7 @@ impl<'a> Job<'a> {
     }
 
     // A whole run; the scratch words stay zero until a code comes that this loop does not know.
+    #[tactic(auto, using(crate::proofs::Onward::run_past), unfolding(crate::specs::Runs::Turns))]
     fn quick(&self) -> Outcome
         ensures { result ≡ from self.now.program.now self.now.frame.now 0 0 0 0 zeros }
     {
@@ -566,6 +576,7 @@ fn odd_program(size: usize) -> bool
 }
 
 // A run tests the program's length, then the frame's.
+#[tactic(auto, unfolding(vm::specs::Machine::run, vm::specs::Machine::inner))]
 pub fn run(program: &[u8], frame: &[u8]) -> Result<Outcome, Refusal>
     ensures { result ≡ M.run program.now frame.now }
 {
