@@ -79,14 +79,14 @@ struct Packet<'a> {
 impl<'a> Packet<'a> {
     // ---- the frame's numbers; bytes past the end zero
 
-    #[tactic(auto, using(crate::proofs::Frames::past_end, bpf::proofs::Bytes::be_first))]
+    #[tactic(auto, using(bpf::proofs::Bytes::be_first))]
     fn byte(self, at: usize) -> u8
         ensures { result ≡ R.b self.entry.frame.now at }
     {
         self.frame.get(at).copied().unwrap_or(0)
     }
 
-    #[tactic(auto, using(crate::proofs::Frames::half_is))]
+    #[tactic(auto, using(bpf::proofs::Bytes::be_half, bpf::proofs::Bytes::be_first))]
     fn half(self, at: usize) -> u16
         requires { at < 65536 }
         ensures { result ≡ R.h self.entry.frame.now at }
@@ -94,7 +94,7 @@ impl<'a> Packet<'a> {
         u16::from_be_bytes([self.byte(at), self.byte(at + 1)])
     }
 
-    #[tactic(auto, using(crate::proofs::Frames::word_is))]
+    #[tactic(auto, using(bpf::proofs::Bytes::be_word, bpf::proofs::Bytes::be_first))]
     fn word(self, at: usize) -> u32
         requires { at < 65536 }
         ensures { result ≡ R.w self.entry.frame.now at }
@@ -193,6 +193,7 @@ impl<'a> Packet<'a> {
     }
 
     // The frame's segments from `at` on agree with these in the first `prefix` bits.
+    #[tactic(auto, using(crate::proofs::Segments::segments_start, crate::proofs::Segments::segments_on, crate::proofs::Segments::segments_end))]
     fn segments_agree(self, prefix: usize, at: usize, segs: [u16; 8]) -> bool
         requires { at < 60000 }
         ensures { result ≡ R.segments_agree self.entry.frame.now prefix at segs }
@@ -267,6 +268,7 @@ impl<'a> Packet<'a> {
 
     // ---- the link's addresses
 
+    #[tactic(auto, using(crate::proofs::Segments::bytes_on, crate::proofs::Segments::bytes_end))]
     fn bytes_are(self, at: usize, address: [u8; 6]) -> bool
         requires { at < 60000 }
         ensures { result ≡ R.bytes_are self.entry.frame.now at address }
@@ -379,6 +381,7 @@ impl<'a> Packet<'a> {
     // Each join reads its parts by `eval_node`, which reads each join by its function, at fewer records left.
     // Document 01 has a function for each join.
     #[cycle(nodes)]
+    #[tactic(auto, using(reader::proofs::Here::here_and), unfolding(direct::specs::Reading::reads))]
     fn eval_and(self, tree: &[u8], i: usize) -> Read
         requires { Here tree.now i × (node_at (place i) tree.now ≡ Ok AndNode) }
         ensures { Says self.entry.link self.entry.frame.now tree.now i result }
@@ -392,6 +395,7 @@ impl<'a> Packet<'a> {
     }
 
     #[cycle(nodes)]
+    #[tactic(auto, using(reader::proofs::Here::here_or), unfolding(direct::specs::Reading::reads))]
     fn eval_or(self, tree: &[u8], i: usize) -> Read
         requires { Here tree.now i × (node_at (place i) tree.now ≡ Ok OrNode) }
         ensures { Says self.entry.link self.entry.frame.now tree.now i result }
@@ -405,6 +409,7 @@ impl<'a> Packet<'a> {
     }
 
     #[cycle(nodes)]
+    #[tactic(auto, using(reader::proofs::Here::here_not), unfolding(direct::specs::Reading::reads))]
     fn eval_not(self, tree: &[u8], i: usize) -> Read
         requires { Here tree.now i × (node_at (place i) tree.now ≡ Ok NotNode) }
         ensures { Says self.entry.link self.entry.frame.now tree.now i result }
@@ -418,6 +423,7 @@ impl<'a> Packet<'a> {
 
     // The tree at record i.
     #[cycle(nodes)]
+    #[tactic(auto, using(reader::proofs::Here::here_leaf), unfolding(direct::specs::Reading::reads))]
     fn eval_node(self, tree: &[u8], i: usize) -> Read
         requires { Here tree.now i }
         ensures { Says self.entry.link self.entry.frame.now tree.now i result }
@@ -435,6 +441,7 @@ impl<'a> Packet<'a> {
 }
 
 // Refusals 1 to 4 of the file, then 10 of the frame, or what the whole tree says of the frame.
+#[tactic(auto, using(reader::proofs::Checks::check_link, reader::proofs::Checks::check_refused), unfolding(direct::specs::Direct::direct))]
 pub fn direct_reading(tree: &[u8], frame: &[u8]) -> Result<bool, Refusal>
     ensures { result ≡ direct tree.now frame.now }
 {
