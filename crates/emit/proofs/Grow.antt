@@ -12,13 +12,14 @@ use Rattle.codegen.specs.declared.Side.TheVariants.{Success, Failure}
 use Rattle.codegen.specs.declared.Exit.{Exit}
 use Rattle.codegen.specs.declared.Exit.TheVariants.{Skip, Leave}
 use Rattle.codegen.specs.declared.Line.{Line}
+use Rattle.codegen.specs.declared.Line.TheVariants.{Jump}
 use Rattle.codegen.specs.declared.Facts.{Facts}
 use Rattle.codegen.specs.Block.{Block, same, far, far_line, sets_x, writes_x, assemble}
 use Rattle.codegen.specs.Emit.{Code, code}
 use Rattle.emit.specs.declared.Patch.{Patch}
 use Rattle.emit.specs.declared.Emitter.{Emitter}
-use Rattle.emit.specs.Lines.{assembled, exit_of, patch_of, pending, patches, writes}
-use Rattle.emit.specs.Grown.{Space, Room, Put, Waits, Grew, Grows}
+use Rattle.emit.specs.Lines.{assembled, exit_of, patch_of, pending, patches, waiting, writes}
+use Rattle.emit.specs.Grown.{Space, Room, Fits, Put, Waits, Grew, Grows}
 
 -- ---- one line
 
@@ -229,6 +230,10 @@ room_left m h r z = record {
   failures = omega (arith, r.failures, z.failures, z.lost_room);
   successes = omega (arith, r.successes, z.successes, z.won_room);
 }
+
+-- for a success that jumps out
+pub room_out : {e : Emitter} → Room 1 e → Fits (Jump (Leave Success)) e
+room_out r = record { insns = r.insns; writings = r.writings; free = omega (arith, r.successes) }
 
 pub sized_then : {m n : ℕ} (k : ℕ) {e f g : Emitter} → m + n ≤ k → Sized m e f → Sized n f g → Sized k e g
 sized_then k h y z = record {

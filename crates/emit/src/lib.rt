@@ -2,11 +2,13 @@
 #![tactic(auto)]
 
 ghost use Rattle.std.specs.Prelude.{◌≡◌, false, [], ◌∷◌, ◌+◌, ◌-◌, ◌≤◌, ◌<◌, length, set, drop};
-ghost use Rattle.codegen.specs.declared.Side.TheVariants.{Failure};
+ghost use Rattle.codegen.specs.declared.Side.TheVariants.{Success, Failure};
+ghost use Rattle.codegen.specs.declared.Exit.TheVariants.{Leave};
+ghost use Rattle.codegen.specs.declared.Line.TheVariants.{Jump};
 ghost use Rattle.codegen.specs.Block.{far_line};
 ghost use Rattle.codegen.specs.Emit as E;
 ghost use Rattle.emit.specs.Lines.{exit_of, patch_of, place_of, resolved, resolve, Below, waiting};
-ghost use Rattle.emit.specs.Grown.{Empty, Turned, Fits, Space, Room, Put, Free, Waits, Grows, Settles, Open, Settled, Otherwise};
+ghost use Rattle.emit.specs.Grown.{Empty, Turned, Fits, Space, Put, Free, Waits, Grows, Settles, Open, Settled, Otherwise};
 
 use ast::LinkType;
 use bpf::Insn;
@@ -219,7 +221,7 @@ impl<'a> Emitter<'a> {
 
     // The failures since their stack was `mark` long go to what follows, and success jumps out.
     pub fn otherwise(&mut self, mark: usize) -> Result<(), Refusal>
-        requires room { Room 1 self.old }
+        requires room { Fits (Jump (Leave Success)) self.old }
         requires open { Open Failure mark 0 self.old }
         ensures { Otherwise mark self.old self.new result }
     {

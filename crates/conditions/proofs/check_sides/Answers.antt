@@ -1,7 +1,7 @@
 use Rattle.std.proofs.Common.{◌+◌, refl, arith}
 use Rattle.codegen.specs.declared.Side.TheVariants.{Failure}
 use Rattle.codegen.specs.Emit.{check_blocks}
-use Rattle.emit.proofs.Grow.{sized, grows_then, room_left}
+use Rattle.emit.proofs.Grow.{sized, grows_then, room_left, room_out}
 use Rattle.emit.proofs.Settling.{opened, otherwise_size, tried_ok, tried_grew}
 use Rattle.conditions.proofs.check_sides.Goals as goal
 
@@ -14,7 +14,7 @@ check-requires-in-SrcAndDst-2-clause-room g c =
 pub otherwise-requires-clause-room : goal.otherwise-requires-clause-room
 otherwise-requires-clause-room g c =
     let h = c.check-in-SrcOrDst.ensures in
-    room_left g.C.Check.most (omega arith) c.requires.room (sized _ h.short h.lines)
+    room_out (room_left g.C.Check.most (omega arith) c.requires.room (sized _ h.short h.lines))
 
 pub otherwise-requires-clause-open : goal.otherwise-requires-clause-open
 otherwise-requires-clause-open g c =

@@ -5,7 +5,7 @@ use Rattle.codegen.specs.Guards.{required_guards}
 use Rattle.codegen.specs.Emit.{emit}
 use Rattle.codegen.proofs.Semantics.{length_settle}
 use Rattle.codegen.proofs.Shape.{weight}
-use Rattle.emit.proofs.Grow.{sized, room_left}
+use Rattle.emit.proofs.Grow.{sized, room_left, room_out}
 use Rattle.emit.proofs.Settling.{settled, otherwise_size}
 use Rattle.emit.proofs.Outcome.{reply_done, reply_refused, handed_on, bind_refused, turned_down}
 use Rattle.emit.proofs.Joins.{settled_near, settled_then, settled_refused}
@@ -99,7 +99,7 @@ emit_arms-otherwise-requires-clause-room t c =
     let a = c.args in
     let l = tree_of a.self.tree.now (a.i + 1) in
     let w = reply_done c.emit_expr.ensures c.in_ok-emit_expr.was in
-    room_left (weight l) (omega arith) c.requires.room (tree_sized a.e.now.link l a.e.now.facts (or_left c.requires.walk c.requires.parts).proper w)
+    room_out (room_left (weight l) (omega arith) c.requires.room (tree_sized a.e.now.link l a.e.now.facts (or_left c.requires.walk c.requires.parts).proper w))
 
 pub emit_arms-otherwise-requires-clause-open : goal.emit_arms-otherwise-requires-clause-open
 emit_arms-otherwise-requires-clause-open t c =
@@ -168,7 +168,7 @@ emit_not-otherwise-requires-clause-room t c =
     let p = c.requires.part in
     let w = reply_done c.emit_expr.ensures c.in_ok-emit_expr.was in
     let s = ap weight p.tree in
-    room_left (weight (tree_of a.self.tree.now (a.i + 1))) (omega (arith, s)) (turned_room c.turn.ensures c.requires.room) (tree_sized _ _ _ (not_part v p).proper w)
+    room_out (room_left (weight (tree_of a.self.tree.now (a.i + 1))) (omega (arith, s)) (turned_room c.turn.ensures c.requires.room) (tree_sized _ _ _ (not_part v p).proper w))
 
 pub emit_not-otherwise-requires-clause-open : goal.emit_not-otherwise-requires-clause-open
 emit_not-otherwise-requires-clause-open t c =
