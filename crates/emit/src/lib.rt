@@ -15,6 +15,15 @@ use bpf::Insn;
 use codegen::{Exit, Facts, Line, Op, Side, Slot, Test, Width};
 use error::Refusal;
 
+// Writes an instruction at its place, if the lent row reaches so far.
+pub fn put_insn(insns: &mut [Insn], place: usize, insn: Insn)
+    ensures { insns.new ≡ set insns.old place insn }
+{
+    if place < insns.len() {
+        insns[place] = insn;
+    }
+}
+
 // ---- pending jumps
 
 // The field of an instruction that waits for a distance, by the instruction's place: codegen.rs `Patch`.
@@ -72,7 +81,7 @@ fn resolve(insns: &mut [Insn], patch: Patch, distance: u8)
 }
 
 // Gives pending jumps their distance to a target, or refuses where one exceeds 255.
-fn resolve_all(insns: &mut [Insn], patches: &[Patch], target: usize) -> Result<(), Refusal>
+pub fn resolve_all(insns: &mut [Insn], patches: &[Patch], target: usize) -> Result<(), Refusal>
     requires { Below target patches.now }
     ensures { Settles (resolve patches.now target insns.old) insns.new result }
 {
@@ -170,9 +179,7 @@ impl<'a> Emitter<'a> {
         requires { self.old.count + 1 ≤ 65536 }
         ensures { Put insn self.old self.new }
     {
-        if self.count < self.insns.len() {
-            self.insns[self.count] = insn;
-        }
+        put_insn(self.insns, self.count, insn);
         self.count += 1;
     }
 
