@@ -71,6 +71,18 @@ pub struct Facts {
 }
 
 impl Facts {
+    // Nothing is known.
+    pub fn none() -> Facts
+        ensures { result ≡ F.no_facts }
+    {
+        Facts {
+            ethertype: None,
+            ip4_proto: None,
+            ip6_nh: None,
+            ports_ready: None,
+        }
+    }
+
     // A fact is only filled where empty.
     // Three functions, since a field cannot be a parameter.
     pub fn learn_ethertype(self, v: u32) -> Facts

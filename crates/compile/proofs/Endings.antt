@@ -23,7 +23,7 @@ use Rattle.codegen.specs.Emit.{Code, emit}
 use Rattle.codegen.specs.Compile.{entry_facts, finished, returns, compile}
 use Rattle.emit.specs.declared.Emitter.{Emitter}
 use Rattle.emit.specs.Lines.{Below, waiting, assembled}
-use Rattle.emit.specs.Grown.{Answers, Empty, Room, Put, Grew, Replies, Open, stack_of, Settled, coded}
+use Rattle.emit.specs.Grown.{Answers, Empty, Lent, Room, Put, Grew, Replies, Open, stack_of, Settled, coded}
 use Rattle.emit.proofs.Settling.{Held, before_end, told, settled, below_more}
 use Rattle.emit.proofs.Joins.{Near, settled_near}
 use Rattle.emit.proofs.Grow.{Sized}
@@ -31,7 +31,7 @@ use Rattle.codegen.proofs.Shape.{weight}
 use Rattle.reader.specs.Reader.{tree_of}
 use Rattle.guards.specs.declared.Note.{Note}
 use Rattle.ast.specs.Tree.{Expr}
-use Rattle.compile.specs.Walks.{Begun, Ready, Fresh, Ended, Holds, Compiles}
+use Rattle.compile.specs.Walks.{Ready, Ended, Holds, Compiles}
 
 -- ---- what is far stays far
 
@@ -67,7 +67,7 @@ second_open {e} {f} h z p =
       below = rw (c.1, z.lost) (below_more e.count (f.count + 1) (drop 0 (waiting e.failure)) (omega (arith, z.count)) h.lost);
     }
 
-module _ {e f : Emitter} {r : Out (Unit {0})} (z : Settled Success 0 0 e f r) (c : Code) (d : Emitter) (s : Fresh d) (g : Grew c d e) where
+module _ {e f : Emitter} {r : Out (Unit {0})} (z : Settled Success 0 0 e f r) (c : Code) (d : Emitter) (s : Empty d) (g : Grew c d e) where
   first : Replies (coded e.facts (resolved (settle Success 0 c.block))) d f r
   first = settled g 0 Success (omega (arith, s.success)) (subst (λ (m : ℕ). Settled Success m 0 e f r) (sym s.success) z)
 
@@ -124,21 +124,16 @@ module _ {e f : Emitter} {r : Out (Unit {0})} (z : Settled Success 0 0 e f r) (c
 
 -- ---- the walk's start
 
-pub begun : {s : List ℕ} {M : List Note} {d e : Emitter} → Ready s M d → Empty d.link (entry_facts d.link) d.insns.now d.success.patches.now d.failure.patches.now e → Begun s e
-begun {s} r z = record {
-  fresh = record { count = z.count; success = z.success; failure = z.failure; x_writes = z.x_writes };
-  facts = z.facts ∙ ap entry_facts (sym z.link);
-  insns = r.insns;
-  successes = omega (arith, r.successes, ap length z.won);
-  failures = omega (arith, r.failures, ap length z.lost);
-}
+-- e stands over what is lent to d
+abbrev pub Begun : Emitter → Emitter → Type 0
+Begun d e = Lent d.link d.insns.now d.success.patches.now d.failure.patches.now e
 
-pub begun_room : {s : List ℕ} {e : Emitter} → Begun s e → Room (weight (tree_of s 0)) e
-begun_room b = record {
-  insns = omega (arith, b.insns, b.fresh.count);
-  writings = omega (arith, b.insns, b.fresh.x_writes);
-  failures = omega (arith, b.failures, b.fresh.failure);
-  successes = omega (arith, b.successes, b.fresh.success);
+pub begun_room : {s : List ℕ} {M : List Note} {d e : Emitter} → Ready s M d → Empty e → Begun d e → Room (weight (tree_of s 0)) e
+begun_room r z l = record {
+  insns = omega (arith, r.insns, z.count);
+  writings = omega (arith, r.insns, z.x_writes);
+  failures = omega (arith, r.failures, z.failure, ap length l.lost);
+  successes = omega (arith, r.successes, z.success, ap length l.won);
 }
 
 -- what was compiled from there
@@ -148,8 +143,7 @@ of_row d e f z (Ok p) (Err q) h = h
 of_row d e f z (Err q) (Ok u) h = h
 of_row d e f z (Err q) (Err k) h = h
 
-pub compiled : (t : Expr) {d e f : Emitter} {r : Out (Unit {0})} → Empty d.link (entry_facts d.link) d.insns.now d.success.patches.now d.failure.patches.now e
-    → Compiles (compile e.link t) e f r → Compiles (compile d.link t) d f r
+pub compiled : (t : Expr) {d e f : Emitter} {r : Out (Unit {0})} → Begun d e → Compiles (compile e.link t) e f r → Compiles (compile d.link t) d f r
 compiled t {d = d} {e = e} {f = f} {r = r} z h =
     subst (λ L. Compiles (compile L t) d f r) z.link (record { is = of_row d e f z.insns (compile e.link t) r h.is })
 
@@ -165,13 +159,13 @@ compiled_done t g h k = rw (← g, h) k
 
 -- ---- the walk's end
 
-pub ended : {s : List ℕ} {c : Code} {d e : Emitter} → Begun s d → Grew c d e → Sized (weight (tree_of s 0)) d e → Ended e
-ended {e = e} r g z = record {
-  insns = omega (arith, z.insns, r.fresh.count, r.insns);
-  successes = omega (arith, z.successes, r.fresh.success, r.successes, z.won_room);
-  failures = omega (arith, z.failures, r.fresh.failure, r.failures, z.lost_room);
-  won = from_start Success g (omega (arith, r.fresh.success)) r.fresh.success;
-  lost = from_start Failure g (omega (arith, r.fresh.failure)) r.fresh.failure;
+pub ended : {s : List ℕ} {M : List Note} {c : Code} {k d e : Emitter} → Ready s M k → Empty d → Begun k d → Grew c d e → Sized (weight (tree_of s 0)) d e → Ended e
+ended {e = e} r o l g z = record {
+  insns = omega (arith, z.insns, o.count, r.insns);
+  successes = omega (arith, z.successes, o.success, r.successes, z.won_room, ap length l.won);
+  failures = omega (arith, z.failures, o.failure, r.failures, z.lost_room, ap length l.lost);
+  won = from_start Success g (omega (arith, o.success)) o.success;
+  lost = from_start Failure g (omega (arith, o.failure)) o.failure;
 }
   where
     from_start : (s : Side) {c : Code} {d e : Emitter} → Grew c d e → Held s d → (stack_of s d).len ≡ 0 → Below e.count (drop 0 (waiting (stack_of s e)))

@@ -10,11 +10,11 @@ use Rattle.codegen.specs.declared.Facts.{Facts}
 use Rattle.codegen.specs.Facts.{meet}
 use Rattle.codegen.specs.Block.{otherwise, resolved, assemble}
 use Rattle.codegen.specs.Emit.{Code, code, restored_after, emit}
-use Rattle.codegen.specs.Compile.{entry_facts, finished, returns}
+use Rattle.codegen.specs.Compile.{finished, returns}
 use Rattle.codegen.proofs.Shape.{weight}
 use Rattle.emit.specs.declared.Emitter.{Emitter}
 use Rattle.emit.specs.Lines.{Below, waiting}
-use Rattle.emit.specs.Grown.{Grew, Answers}
+use Rattle.emit.specs.Grown.{Empty, Grew, Answers}
 use Rattle.reader.specs.Reader.{Here, tree_of}
 use Rattle.guards.specs.declared.Note.{Note}
 use Rattle.guards.specs.Notes.{Noted}
@@ -57,13 +57,6 @@ pub record Holds (p : List Insn) (d e : Emitter) : Type 0 where
 pub record Compiles (o : Out (List Insn)) (d e : Emitter) (r : Out (Unit {0})) : Type 0 where
   pub is : Answers o (λ p. Holds p d e) r
 
--- nothing is added yet
-pub record Fresh (e : Emitter) : Type 0 where
-  pub count : e.count ≡ 0
-  pub success : e.success.len ≡ 0
-  pub failure : e.failure.len ≡ 0
-  pub x_writes : e.x_writes ≡ 0
-
 -- places for the two returns, and pending jumps before them
 pub record Ended (e : Emitter) : Type 0 where
   pub insns : e.count + 2 ≤ 65536
@@ -74,15 +67,7 @@ pub record Ended (e : Emitter) : Type 0 where
 
 -- the program of a block that was added from the start
 pub record Finishes (e f : Emitter) (r : Out (Unit {0})) : Type 0 where
-  pub program : (c : Code) (d : Emitter) → Fresh d → Grew c d e → Compiles (resolved (finished c.block) >>= λ b. Ok (map assemble b ++ returns)) d f r
-
--- nothing is added yet of the tree of a file, and there is room for its pending jumps
-pub record Begun (s : List ℕ) (e : Emitter) : Type 0 where
-  pub fresh : Fresh e
-  pub facts : e.facts ≡ entry_facts e.link
-  pub insns : weight (tree_of s 0) + 2 ≤ 65536
-  pub successes : weight (tree_of s 0) ≤ length e.success.patches.now
-  pub failures : weight (tree_of s 0) ≤ length e.failure.patches.now
+  pub program : (c : Code) (d : Emitter) → Empty d → Grew c d e → Compiles (resolved (finished c.block) >>= λ b. Ok (map assemble b ++ returns)) d f r
 
 -- a file with one tree, and room for its notes and pending jumps, whatever the emitter holds
 pub record Ready (s : List ℕ) (M : List Note) (e : Emitter) : Type 0 where

@@ -6,7 +6,7 @@ ghost use Rattle.ast.specs.Tree.{And, Or};
 ghost use Rattle.codegen.specs.Emit as E;
 ghost use Rattle.codegen.specs.Compile as C;
 ghost use Rattle.codegen.proofs.Shape.{weight};
-ghost use Rattle.emit.specs.Grown.{Empty, Room, Replies};
+ghost use Rattle.emit.specs.Grown.{Empty, Lent, Room, Replies};
 ghost use Rattle.reader.specs.Reader.{tree_of, end_of};
 ghost use Rattle.reader.proofs.Here.{TwoParts, OnePart};
 ghost use Rattle.compile.specs.Walks as W;
@@ -164,7 +164,9 @@ fn note_joins(tree: &[u8], notes: &mut [Note])
 
 // Nothing is added yet, and what the link type tells holds.
 fn begin(e: &mut Emitter<'_>)
-    ensures { Empty e.old.link (C.entry_facts e.old.link) e.old.insns.now e.old.success.patches.now e.old.failure.patches.now e.new }
+    ensures empty { Empty e.new }
+    ensures lent { Lent e.old.link e.old.insns.now e.old.success.patches.now e.old.failure.patches.now e.new }
+    ensures facts { e.new.facts ≡ C.entry_facts e.new.link }
 {
     e.count = 0;
     e.success.len = 0;

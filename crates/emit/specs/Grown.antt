@@ -46,16 +46,18 @@ pub record Fits (l : Line) (e : Emitter) : Type 0 where
   pub writings : e.x_writes + 1 ≤ 65536
   pub free : Free (exit_of l) e
 
--- nothing was added to what is lent
-pub record Empty (L : LinkType) (g : Facts) (I : List Insn) (Y N : List Patch) (e : Emitter) : Type 0 where
-  pub insns : e.insns.now ≡ I
+-- nothing was added
+pub record Empty (e : Emitter) : Type 0 where
   pub count : e.count ≡ 0
   pub success : e.success.len ≡ 0
-  pub won : e.success.patches.now ≡ Y
   pub failure : e.failure.len ≡ 0
-  pub lost : e.failure.patches.now ≡ N
   pub x_writes : e.x_writes ≡ 0
-  pub facts : e.facts ≡ g
+
+-- over these lent rows, for this link
+pub record Lent (L : LinkType) (I : List Insn) (Y N : List Patch) (e : Emitter) : Type 0 where
+  pub insns : e.insns.now ≡ I
+  pub won : e.success.patches.now ≡ Y
+  pub lost : e.failure.patches.now ≡ N
   pub link : e.link ≡ L
 
 -- the two stacks change places

@@ -5,10 +5,11 @@ ghost use Rattle.std.specs.Prelude.{◌≡◌, false, [], ◌∷◌, ◌+◌, �
 ghost use Rattle.codegen.specs.declared.Side.TheVariants.{Success, Failure};
 ghost use Rattle.codegen.specs.declared.Exit.TheVariants.{Leave};
 ghost use Rattle.codegen.specs.declared.Line.TheVariants.{Jump};
+ghost use Rattle.codegen.specs.Facts.{no_facts};
 ghost use Rattle.codegen.specs.Block.{far_line};
 ghost use Rattle.codegen.specs.Emit as E;
 ghost use Rattle.emit.specs.Lines.{exit_of, patch_of, place_of, resolved, resolve, Below, waiting};
-ghost use Rattle.emit.specs.Grown.{Empty, Turned, Fits, Space, Put, Free, Waits, Grows, Settles, Open, Settled, Otherwise};
+ghost use Rattle.emit.specs.Grown.{Empty, Lent, Turned, Fits, Space, Put, Free, Waits, Grows, Settles, Open, Settled, Otherwise};
 
 use ast::LinkType;
 use bpf::Insn;
@@ -140,15 +141,16 @@ pub struct Emitter<'a> {
 }
 
 impl<'a> Emitter<'a> {
-    // Nothing is written.
+    // Nothing is written, and nothing is known.
     pub fn new(
         link: LinkType,
-        facts: Facts,
         insns: &'a mut [Insn],
         success: &'a mut [Patch],
         failure: &'a mut [Patch],
     ) -> Emitter<'a>
-        ensures { Empty link facts insns.old success.old failure.old result }
+        ensures empty { Empty result }
+        ensures lent { Lent link insns.old success.old failure.old result }
+        ensures facts { result.facts ≡ no_facts }
     {
         Emitter {
             link,
@@ -163,7 +165,7 @@ impl<'a> Emitter<'a> {
                 len: 0,
             },
             x_writes: 0,
-            facts,
+            facts: Facts::none(),
         }
     }
 
@@ -207,7 +209,8 @@ impl<'a> Emitter<'a> {
     }
 
     // The exits by a side, since its stack was `mark` long, go to so many lines past the end.
-    // Two arms: a method that lends one of the stacks would hold the whole emitter, whose row is written meanwhile.
+    // Two arms: a method that lends one of the stacks would hold the whole emitter, whose row is written meanwhile. Each cuts its stack here,
+    // since a method that cuts it and lends a part of its row is not proved to leave the row as it was.
     pub fn settle(&mut self, side: Side, mark: usize, over: usize) -> Result<(), Refusal>
         requires { Open side mark over self.old }
         ensures { Settled side mark over self.old self.new result }

@@ -27,16 +27,9 @@ pub fn l4set_for(protocol: Option<Proto>) -> Result<L4Set, Refusal>
 pub fn entry_facts(link: LinkType) -> Facts
     ensures { result ≡ entry_facts link }
 {
-    let none = Facts {
-        ethertype: None,
-        ip4_proto: None,
-        ip6_nh: None,
-        ports_ready: None,
-    };
     match link {
-        LinkType::Ethernet => none,
-        LinkType::RawIp => none.learn_ethertype(0x0800),
-        LinkType::LinuxSll => none,
+        LinkType::RawIp => Facts::none().learn_ethertype(0x0800),
+        LinkType::Ethernet | LinkType::LinuxSll => Facts::none(),
     }
 }
 

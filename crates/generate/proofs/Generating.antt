@@ -24,7 +24,7 @@ use Rattle.codegen.proofs.Sound.{weight_records}
 use Rattle.codegen.proofs.Joins.{resolved_then}
 use Rattle.emit.specs.declared.Emitter.{Emitter}
 use Rattle.emit.specs.declared.Patch.{Patch}
-use Rattle.emit.specs.Grown.{Empty, Answers}
+use Rattle.emit.specs.Grown.{Lent, Answers}
 use Rattle.guards.specs.declared.Note.{Note}
 use Rattle.reader.specs.Reader.{tree_of}
 use Rattle.compile.specs.Walks.{Holds, Compiles, Ready}
@@ -119,9 +119,9 @@ suffices {s} most c few m y i cap a b d =
     let w = most_lines s most c few in
     record { notes = λ k. omega (arith, m (omega arith)); jumps = omega arith; places = omega arith; lines = λ k. omega arith; few = (a, b, d) }
 
--- an emitter that holds nothing yet, over arrays that suffice
+-- an emitter over arrays that suffice
 pub ready : {L : LinkType} {s : List ℕ} {M : List Note} {I : List Insn} {Y N : List Patch} {n l j lent : ℕ} {e : Emitter} → Stands s → Suffices s n l j lent
-    → length M ≡ n → length Y ≡ j → length N ≡ j → Empty L (entry_facts L) I Y N e → Ready s M e
+    → length M ≡ n → length Y ≡ j → length N ≡ j → Lent L I Y N e → Ready s M e
 ready c z m y k h = record {
   noting = record { here = c.here; notes = λ w. omega (arith, z.notes w, m) };
   proper = c.proper;

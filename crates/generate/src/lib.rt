@@ -86,8 +86,7 @@ fn generate_in<const NOTES: usize, const LINES: usize, const JUMPS: usize>(
     let mut insns = [NO_INSN; LINES];
     let mut success = [NO_PATCH; JUMPS];
     let mut failure = [NO_PATCH; JUMPS];
-    let facts = facts::entry_facts(link);
-    let mut e = Emitter::new(link, facts, &mut insns, &mut success, &mut failure);
+    let mut e = Emitter::new(link, &mut insns, &mut success, &mut failure);
     compile::compile(tree, &mut notes, &mut e)?;
     let count = e.count;
     if 8 * count <= part.len() {
