@@ -1,7 +1,6 @@
 // Files by name; captures in windows of one lent buffer.
 #![tactic(auto)]
 
-pub mod errno;
 mod source;
 mod windows;
 

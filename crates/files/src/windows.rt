@@ -4,11 +4,11 @@ ghost use Rattle.capture.specs.Turns.{sum as T·sum, finish as T·finish};
 ghost use Rattle.capture.specs.Promises.{Sound};
 ghost use Rattle.files.specs.Windows.{beginning, is_turned, Used, Whole};
 
-use crate::{errno, read_from};
+use crate::read_from;
 use ast::LinkType;
 use capture::{Halt, Stage, Tally};
 use std::io;
-use std::io::{Error, Read};
+use std::io::{Error, ErrorKind, Read};
 
 // The most bytes that a file can have. Of a pipe that gives more nothing is counted.
 const MOST: usize = 9223372036854775807;
@@ -103,7 +103,7 @@ pub fn count<R: Read>(
     // What comes is the reader's to say, so no iterator knows the end.
     while !p.is_turned() {
         if MOST < p.tally.stop {
-            return Err(Error::from_raw_os_error(errno::EFBIG));
+            return Err(Error::from(ErrorKind::FileTooLarge));
         }
         let n = read_from(reader, buffer, p.left)?;
         if n == 0 {

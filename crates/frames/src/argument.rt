@@ -2,7 +2,6 @@
 ghost use Rattle.std.specs.Prelude.{◌≡◌, ◌≤◌, ◌<◌, ℕ, length, slice_index_or, IfOk};
 ghost use Rattle.frames.specs.declared.argument.Argument.{Argument};
 
-use files::errno;
 use std::env::FillError;
 use std::io::{Error, Result};
 use std::rt::Env;
@@ -12,6 +11,9 @@ const PATH: usize = 4096;
 
 // Room for the longest argument that Linux passes, 131,071 bytes.
 const ROOM: usize = 131072;
+
+// Linux's number of a name that is too long: its kind is also that of one that is no text.
+const ENAMETOOLONG: i32 = 36;
 
 // An argument, by its number. Its bytes need not be text; a longer one than there is room for has none.
 #[derive(Drop)]
@@ -26,7 +28,7 @@ impl Argument {
     {
         match &self.bytes {
             Some(bytes) if bytes.len() <= most => Ok(bytes.as_slice()),
-            _ => Err(Error::from_raw_os_error(errno::ENAMETOOLONG)),
+            _ => Err(Error::from_raw_os_error(ENAMETOOLONG)),
         }
     }
 

@@ -1,7 +1,6 @@
 // What is said in words: names, refusals, verdicts, links and errors.
 use ast::LinkType;
 use error::Refusal;
-use files::errno;
 use hints::Shown;
 use std::fmt::{Display, Formatter, Write};
 use std::io::{Error, ErrorKind, Print};
@@ -112,37 +111,39 @@ impl Display for LinkName {
 
 // ---- errors
 
-// Why a file cannot be read or written, by errno.
-fn errno_words(number: i32) -> &'static str {
-    match number {
-        errno::ENOENT => "no such file",
-        errno::EACCES => "permission denied",
-        errno::EISDIR => "it is a directory",
-        errno::ENOTDIR => "a part of its path is not a directory",
-        errno::ENAMETOOLONG => "its name is too long",
-        errno::ELOOP => "too many links",
-        errno::EBADF => "it is not open",
-        errno::EFBIG => "it is too long",
-        errno::ENOSPC => "no space is left",
-        errno::EPIPE => "nobody reads it",
+// Linux's number of an error that has no kind: a descriptor is not open.
+const EBADF: i32 = 9;
+
+// Linux's number of a permission that a file's mode denies: its kind is also that of EPERM, which has no words here.
+const EACCES: i32 = 13;
+
+// Why a file cannot be read or written. An error with a number is the system's: a name is invalid to it that is too long, and its memory is
+// not this program's.
+fn error_words(error: &Error) -> &'static str {
+    let number = error.raw_os_error();
+    match error.kind() {
+        ErrorKind::NotFound => "no such file",
+        ErrorKind::PermissionDenied if number == Some(EACCES) => "permission denied",
+        ErrorKind::IsADirectory => "it is a directory",
+        ErrorKind::NotADirectory => "a part of its path is not a directory",
+        ErrorKind::InvalidFilename if number.is_some() => "its name is too long",
+        ErrorKind::InvalidFilename => "its name is not UTF-8",
+        ErrorKind::FilesystemLoop => "too many links",
+        ErrorKind::FileTooLarge => "it is too long",
+        ErrorKind::StorageFull => "no space is left",
+        ErrorKind::BrokenPipe => "nobody reads it",
+        ErrorKind::OutOfMemory if number.is_none() => "there is no memory left",
+        _ if number == Some(EBADF) => "it is not open",
         _ => "the system reports an error",
     }
 }
 
-// The same, of an error that may have no errno.
 #[derive(Drop)]
 pub struct Reason(pub Error);
 
 impl Display for Reason {
     fn fmt<W: Write>(&self, f: &mut Formatter<W>) -> fmt::Result {
-        f.write_str(match self.0.raw_os_error() {
-            Some(number) => errno_words(number),
-            None => match self.0.kind() {
-                ErrorKind::InvalidFilename => "its name is not UTF-8",
-                ErrorKind::OutOfMemory => "there is no memory left",
-                _ => "the system reports an error",
-            },
-        })
+        f.write_str(error_words(&self.0))
     }
 }
 
