@@ -1,15 +1,17 @@
 // Classic pcap files: the file header, the frames as parts of the file, and how many of them a program accepts.
 #![tactic(auto)]
 
-ghost use Rattle.std.specs.Prelude.{◌≡◌, true, ◌+◌, ◌≤◌, ◌<◌, length, drop};
+ghost use Rattle.std.specs.Prelude.{◌≡◌, true, ◌+◌, ◌^◌, ◌≤◌, ◌<◌, length, drop};
 ghost use Rattle.capture.specs.Capture.{number_at, is_mark, order_of, field_of, opened, front, piece, part, frame_at};
 ghost use Rattle.capture.specs.Counting as C;
+ghost use Rattle.capture.specs.Promises.{Sound};
 ghost use Rattle.capture.specs.Turns as T;
 ghost use Rattle.capture.specs.declared.Stage.TheVariants.{Header};
 
 use ast::LinkType;
 use bpf::{be_u32, le_u32};
 use error::Refusal;
+use std::ops::Add;
 use vm::{Outcome, Verdict};
 
 // The bytes of a file header and of a frame header.
@@ -82,6 +84,23 @@ impl Tally {
         given: 0,
         stop: 0,
     };
+}
+
+// The frames of two parts of a file, one behind the other.
+impl Add for Tally {
+    type Output = Tally;
+
+    ghost can_add = { λ t u. (Sound t × Sound u) × (t.stop + u.stop < 2 ^ 64) };
+
+    ghost add_gives = { λ t u r. r ≡ T.sum t u };
+
+    fn add(self, rhs: Tally) -> Tally {
+        Tally {
+            kept: self.kept + rhs.kept,
+            given: self.given + rhs.given,
+            stop: self.stop + rhs.stop,
+        }
+    }
 }
 
 // A refusal before any frame.

@@ -1,5 +1,9 @@
 -- A capture that is read in windows of one buffer.
 use Rattle.std.specs.Prelude.{Ok, Err}
+use Rattle.std.specs.List.{copy_within}
+use Rattle.std.proofs.Math.Nat.{zero-add}
+use Rattle.std.proofs.lemmas.List.{take-append-le, drop-append-le, take-append-drop, length-append}
+use Rattle.std.proofs.lemmas.List.Edits.{take-paste}
 use Prim.Native.Nat.{ℕ, ◌+◌, ◌-◌, ◌≤◌, ◌<◌}
 use mathlib.Core.Path.{◌≡◌, refl, sym, ap, ◌∙◌}
 use mathlib.Core.List.{List, [], ◌∷◌, ◌++◌}
@@ -7,8 +11,8 @@ use mathlib.Core.Bool.{Bool, true, false, cond, true≢false}
 use mathlib.Core.Logic.{◌⊎◌, inl, inr}
 use native.Mathlib.Omega.{arith}
 use borrow.Author.Tests.{ltb-true, ltb-false}
-use lib.ListN.{length, take, drop}
-use lib.Seq.{length-take-le, take-add, drop_at}
+use lib.ListN.{length, take, drop, length-drop}
+use lib.Seq.{length-take-le, take-add, take-length}
 use lib.Dec.{ltb}
 use Rattle.error.specs.declared.Refusal.{Refusal}
 use Rattle.error.specs.Answer.{Out}
@@ -62,31 +66,51 @@ module _ (P : List ℕ) (link : LinkType) where
 
   -- ---- one window
 
-  module _ (p : Progress) (n : ℕ) (b : List ℕ) (h : n ≤ length b) (v : Step) (e : v ≡ step P link p.stage (take n b)) where
+  module _ (p : Progress) (b : List ℕ) (v : Step) (e : v ≡ step P link p.stage b) where
     pub window_sound_here : Sound v.tally
-    window_sound_here = rw e (step_sound p.stage (take n b))
+    window_sound_here = rw e (step_sound p.stage b)
 
-    pub window_within : v.tally.stop ≤ n
-    window_within = rw e (omega (arith, step_few P link p.stage (take n b), length-take-le n b h))
+    pub window_within : v.tally.stop ≤ length b
+    window_within = rw e (step_few P link p.stage b)
 
-    -- what the window leaves, in the buffer and in the window
-    left_is : take (n - v.tally.stop) (drop v.tally.stop b) ≡ drop v.tally.stop (take n b)
-    left_is =
-        let s = v.tally.stop in
-        let w = window_within in
-        let k : s + (n - s) ≡ n = omega arith in
-        sym (drop_at (take s b) (take (n - s) (drop s b)) s (length-take-le s b (omega arith))) ∙ ap (drop s) (sym (take-add s (n - s) b) ∙ ap (λ m. take m b) k)
+    -- what the window leaves, moved to its start
+    window_moved : take (length b - v.tally.stop) (copy_within b v.tally.stop (length b) 0) ≡ drop v.tally.stop b
+    window_moved =
+        let rest = drop v.tally.stop b in
+        let n = length b - v.tally.stop in
+        let k : length rest ≡ n = length-drop v.tally.stop b in
+        ap (λ m. take m (copy_within b v.tally.stop (length b) 0)) (sym (zero-add n)) ∙ take-paste b 0 rest n (omega arith) (omega (arith, k))
+        ∙ ap (λ m. take m rest) (sym k) ∙ take-length rest
 
-    pub window_used : p.left ≤ n → Sound p.tally → (t : Tally) → t ≡ sum p.tally v.tally → (c : List ℕ)
-        → take (n - v.tally.stop) c ≡ take (n - v.tally.stop) (drop v.tally.stop b)
-        → Used P link p n b (record { stage = v.stage; tally = t; left = n - v.tally.stop }) c
+    pub window_used : p.left ≤ length b → Sound p.tally → (t : Tally) → t ≡ sum p.tally v.tally → (c : List ℕ)
+        → c ≡ copy_within b v.tally.stop (length b) 0
+        → Used P link p (length b) b (record { stage = v.stage; tally = t; left = length b - v.tally.stop }) c
     window_used l s t f c k =
         let w = window_within in
         record {
-          goes_on = rw (joined p n b l, ← e, f, k, left_is);
+          goes_on = rw (joined p (length b) b l, take-length b, ← e, f, k, window_moved);
           sound = rw f (sum_sound p.tally v.tally s window_sound_here);
           all = omega (arith, ap (λ x. x.stop) f);
         }
+
+  -- a window at a buffer's start, with what stands behind it
+  widened : (p r : Progress) (w d c : List ℕ) → p.left ≤ length w → length c ≡ length w → Used P link p (length w) w r c
+      → Used P link p (length w) (w ++ d) r (c ++ d)
+  widened p r w d c l k u =
+      let n : r.tally.stop ≡ p.tally.stop + (step P link p.stage (take p.left w ++ behind p (length w) w)).tally.stop = ap (λ x. x.tally.stop) u.goes_on in
+      let q = length-drop p.left w in
+      record {
+        goes_on =
+            rw (
+              take-append-le r.left c d (omega (arith, u.all, n, k)),
+              take-append-le p.left w d l,
+              drop-append-le p.left w d l,
+              take-append-le (length w - p.left) (drop p.left w) d (omega (arith, q)),
+            )
+            u.goes_on;
+        sound = u.sound;
+        all = u.all;
+      }
 
   -- ---- room for a read
 
@@ -135,8 +159,23 @@ module _ (P : List ℕ) (link : LinkType) where
     )
 
     -- a read of some bytes behind those that are left, and the window of both
-    module _ (b₁ : List ℕ) (n : ℕ) (r : Progress) (b₂ : List ℕ) (k : take p.left b₁ ≡ take p.left b) (l₁ : length b₁ ≡ length b) (l₂ : length b₂ ≡ length b₁)
-        (h : p.left ≤ n) (m : n ≤ length b₁) (z : 65551 ≤ length b) (q : p.tally.stop ≤ most) (u : Used P link p n b₁ r b₂) where
+    module _ (b₁ : List ℕ) (n : ℕ) (r : Progress) (c : List ℕ) (k : take p.left b₁ ≡ take p.left b) (l₁ : length b₁ ≡ length b)
+        (h : p.left ≤ n) (m : n ≤ length b₁) (z : 65551 ≤ length b) (q : p.tally.stop ≤ most)
+        (l₂ : length c ≡ length (take n b₁)) (used : Used P link p (length (take n b₁)) (take n b₁) r c) where
+      abbrev b₂ : List ℕ
+      b₂ = c ++ drop n b₁
+
+      n_long : length (take n b₁) ≡ n
+      n_long = length-take-le n b₁ m
+
+      u : Used P link p n b₁ r b₂
+      u =
+          let v : Used P link p (length (take n b₁)) (take n b₁ ++ drop n b₁) r b₂ = widened p r (take n b₁) (drop n b₁) c (omega (arith, n_long)) l₂ used in
+          rw (n_long, take-append-drop n b₁) at v
+
+      b₂_long : length b₂ ≡ length b₁
+      b₂_long = omega (arith, length-append c (drop n b₁), l₂, n_long, length-drop n b₁)
+
       abbrev w : List ℕ
       w = take p.left b₁ ++ behind p n b₁
 
@@ -147,10 +186,10 @@ module _ (P : List ℕ) (link : LinkType) where
       further = ap (λ x. x.tally.stop) u.goes_on
 
       left_less : is_turned r.stage ≡ false → (t : Bool) → ltb n (length b₁) ≡ t → r.left < length b₂
-      left_less e true t = omega (arith, ltb-true n (length b₁) t, further, u.all)
+      left_less e true t = omega (arith, b₂_long, ltb-true n (length b₁) t, further, u.all)
       left_less e false t =
           let l = ltb-false n (length b₁) t in
-          omega (arith, moves_on p.stage w (omega (arith, w_long)) (ap (λ x. is_turned x.stage) (sym u.goes_on) ∙ e), further, u.all)
+          omega (arith, b₂_long, moves_on p.stage w (omega (arith, w_long)) (ap (λ x. is_turned x.stage) (sym u.goes_on) ∙ e), further, u.all)
 
       pub goes : Going old b₂ r
       goes =
@@ -158,8 +197,8 @@ module _ (P : List ℕ) (link : LinkType) where
             cuts = g.cuts ++ (behind p n b₁ ∷ []);
             so_far = reading_more unread g.cuts (behind p n b₁) ∙ ap (λ x. more P link x (behind p n b₁)) g.so_far ∙ rw (← k) (sym u.goes_on);
             sound = u.sound;
-            long = l₂ ∙ l₁ ∙ g.long;
-            fits = omega (arith, further, u.all);
-            few = omega (arith, u.all);
+            long = b₂_long ∙ l₁ ∙ g.long;
+            fits = omega (arith, b₂_long, further, u.all);
+            few = omega (arith, b₂_long, l₁, u.all);
             room = λ e. left_less e (ltb n (length b₁)) refl;
           }

@@ -1,6 +1,6 @@
 // A capture of any size, read in windows: what is not yet used of it stands at the start of a lent buffer, and what is read follows it.
-ghost use Rattle.std.specs.Prelude.{◌≡◌, ◌+◌, ◌-◌, ◌^◌, ◌≤◌, ◌<◌, length, take, drop};
-ghost use Rattle.capture.specs.Turns.{sum as T·sum, finish as T·finish};
+ghost use Rattle.std.specs.Prelude.{◌≡◌, ◌+◌, ◌^◌, ◌≤◌, ◌<◌, length};
+ghost use Rattle.capture.specs.Turns.{finish as T·finish};
 ghost use Rattle.capture.specs.Promises.{Sound};
 ghost use Rattle.files.specs.Windows.{beginning, is_turned, Used, Whole};
 
@@ -21,59 +21,31 @@ struct Progress {
     left: usize,
 }
 
-// No `Add`: it asks that the sums fit.
-fn sum(a: Tally, b: Tally) -> Tally
-    requires { (Sound a × Sound b) × (a.stop + b.stop < 2 ^ 64) }
-    ensures { result ≡ T·sum a b }
-{
-    Tally {
-        kept: a.kept + b.kept,
-        given: a.given + b.given,
-        stop: a.stop + b.stop,
-    }
-}
-
-// Moves the bytes from one place up to another to the start. Slices have no `copy_within`.
-fn move_front(buffer: &mut [u8], from: usize, to: usize)
-    requires { (from ≤ to) × (to ≤ length buffer.old) }
-    ensures { take (to - from) buffer.new ≡ take (to - from) (drop from buffer.old) }
-{
-    if from == 0 {
-        return;
-    }
-    for i in from..to {
-        buffer[i - from] = buffer[i];
-    }
-}
-
 impl Progress {
     fn beginning() -> Progress
         ensures { result ≡ beginning }
     {
         Progress {
             stage: Stage::Header,
-            tally: Tally {
-                kept: 0,
-                given: 0,
-                stop: 0,
-            },
+            tally: Tally::NONE,
             left: 0,
         }
     }
 
-    // Uses the window of n bytes at the buffer's start, and moves what is left of it there.
+    // Uses a window, and moves what is left of it to its start.
     #[tactic(auto, using(crate::proofs::Reading::window_within, crate::proofs::Reading::window_sound_here))]
-    fn use_window(&mut self, program: &[u8], link: LinkType, buffer: &mut [u8], n: usize)
-        requires left_le_n { (self.old.left ≤ n) × (n ≤ length buffer.old) }
-        requires sound { Sound self.old.tally × (self.old.tally.stop + n < 2 ^ 64) }
-        ensures { Used program.now link self.old n buffer.old self.new buffer.new }
+    fn use_window(&mut self, program: &[u8], link: LinkType, window: &mut [u8])
+        requires left_within { self.old.left ≤ length window.old }
+        requires sound { Sound self.old.tally × (self.old.tally.stop + length window.old < 2 ^ 64) }
+        ensures used { Used program.now link self.old (length window.old) window.old self.new window.new }
+        ensures long { length window.new ≡ length window.old }
     {
-        let step = capture::take_window(program, link, self.stage, &buffer[..n]);
-        let window = step.tally;
-        move_front(buffer, window.stop, n);
+        let step = capture::take_window(program, link, self.stage, window);
+        let used = step.tally.stop;
         self.stage = step.stage;
-        self.tally = sum(self.tally, window);
-        self.left = n - window.stop;
+        self.tally = self.tally + step.tally;
+        self.left = window.len() - used;
+        window.copy_within(used.., 0);
     }
 
     fn is_turned(&self) -> bool
@@ -109,8 +81,8 @@ pub fn count<R: Read>(
         if n == 0 {
             break;
         }
-        let window = p.left + n;
-        p.use_window(program, link, buffer, window);
+        let end = p.left + n;
+        p.use_window(program, link, &mut buffer[..end]);
     }
     Ok(p.finish())
 }
