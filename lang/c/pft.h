@@ -83,9 +83,9 @@ enum pft_verdict {
 #define PFT_FRAME_HEADER_SIZE ((size_t)16)
 
 /*
- * The stack that a call may take, in bytes. Measured: a build, a load or a count 55,300 for one
- * record and 138,000 for 127 nots over one, which is the deepest tree, a question 23,000 and
- * 106,300; a direct reading 24,800; a typed line 3,300, whatever it is; a run or a frame below 600.
+ * The stack that a call may take, in bytes. Measured: a build, a question, a load or a count 70,500
+ * for one record and 119,300 for 127 nots over one, which is the deepest tree; a direct reading 400
+ * and 37,000; a typed line 4,400, whatever it is; a run or a frame below 300.
  */
 #define PFT_STACK ((size_t)262144)
 
