@@ -238,6 +238,7 @@ pub enum Op {
 }
 
 impl Op {
+    #[inline(always)]
     fn insn(self) -> Insn
         ensures { result ≡ B.op_insn self }
     {
@@ -324,6 +325,8 @@ pub enum Line {
 const JA: u16 = 0x05;
 
 impl Line {
+    // Inlined, since a line that is written out is an instruction that is known when the code is compiled.
+    #[inline(always)]
     #[tactic(auto, unfolding(crate::specs::Block::assemble))]
     pub fn assemble(self) -> Insn
         ensures { result ≡ B.assemble self }

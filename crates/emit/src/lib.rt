@@ -198,6 +198,8 @@ impl<'a> Emitter<'a> {
     }
 
     // A line at the end.
+    // Inlined, as what it calls: nearly every line is written out where it is added, and is put together when the code is compiled.
+    #[inline(always)]
     pub fn add(&mut self, line: Line)
         requires { Fits line self.old }
         ensures { Grows (line ∷ []) self.old self.new }
@@ -242,6 +244,7 @@ impl<'a> Emitter<'a> {
     // ---- tests
 
     // `jeq_k` whose jf fails.
+    #[inline(always)]
     pub fn need(&mut self, k: u32)
         requires { Space 1 self.old }
         ensures { Grows (E.need k ∷ []) self.old self.new }

@@ -319,6 +319,7 @@ impl<'a> WholeRecord<'a> {
     }
 
     // Its kind, where it is good.
+    #[inline(always)]
     #[tactic(auto, using(crate::proofs::Found::kind_known, crate::proofs::Found::node_of_kind))]
     fn kind(self) -> Kind
         requires { IsOk (node_at (place self.reader.index) self.reader.tree.now) }
@@ -328,6 +329,7 @@ impl<'a> WholeRecord<'a> {
     }
 
     // The node of a record of this kind.
+    #[inline(always)]
     fn node(self, kind: Kind) -> Node
         ensures { result ≡ (C.row kind).node (C.fields self.entry.reader) }
     {
@@ -439,6 +441,8 @@ impl<'a> WholeRecord<'a> {
 }
 
 // The node of the record at which a tree stands.
+// Inlined: a caller's arm then reads what it needs, and no node is put together first.
+#[inline(always)]
 #[tactic(auto, using(crate::proofs::Here::here_node))]
 pub fn node(tree: &[u8], i: usize) -> Node
     requires { Here tree.now i }
