@@ -6,6 +6,8 @@ ghost use Rattle.codegen.specs.Emit as E;
 ghost use Rattle.codegen.specs.Nets6 as N;
 ghost use Rattle.nets.specs.Masks.{mask_at};
 
+use std::array::from_fn;
+
 // The bits of a segment.
 const BITS: u8 = 16;
 
@@ -28,7 +30,7 @@ fn mask16(p: u32) -> u32
 }
 
 // The mask of segment i, where the first `full` segments count whole and `part` is the mask of the next.
-fn mask_at(i: u8, full: u8, part: u16) -> u16
+fn mask_at(i: usize, full: usize, part: u16) -> u16
     ensures { result ≡ mask_at i full part }
 {
     if i < full {
@@ -37,23 +39,12 @@ fn mask_at(i: u8, full: u8, part: u16) -> u16
     if i == full { part } else { 0 }
 }
 
-// Eight in a literal: a loop with a mask from a table was slower.
-// Widened by `as`: behind `u32::from` the goal stayed open.
 fn masks_of(prefix: u8) -> [u16; 8]
     ensures { result ≡ N.masks prefix }
 {
-    let full = prefix / BITS;
-    let part = mask16((prefix % BITS) as u32) as u16;
-    [
-        mask_at(0, full, part),
-        mask_at(1, full, part),
-        mask_at(2, full, part),
-        mask_at(3, full, part),
-        mask_at(4, full, part),
-        mask_at(5, full, part),
-        mask_at(6, full, part),
-        mask_at(7, full, part),
-    ]
+    let full = usize::from(prefix / BITS);
+    let part = mask16(u32::from(prefix % BITS)) as u16;
+    from_fn(|i| mask_at(i, full, part))
 }
 
 // The numbers of a net, worked out once, before any segment of either direction is walked.
@@ -61,16 +52,6 @@ pub fn net6_of(prefix: u8, segments: [u16; 8]) -> Net6
     ensures { (result.masks ≡ N.masks prefix) × (result.expected ≡ N.expected prefix segments) }
 {
     let masks = masks_of(prefix);
-    // Eight in a literal, for the same reason.
-    let expected = [
-        segments[0] & masks[0],
-        segments[1] & masks[1],
-        segments[2] & masks[2],
-        segments[3] & masks[3],
-        segments[4] & masks[4],
-        segments[5] & masks[5],
-        segments[6] & masks[6],
-        segments[7] & masks[7],
-    ];
+    let expected = from_fn(|i| segments[i] & masks[i]);
     Net6 { masks, expected }
 }
