@@ -10,20 +10,17 @@ use Rattle.bpf.specs.Bytes.{be, bytes_at, segments_at}
 use Rattle.bpf.proofs.Parts.{be_bytes, segments_bytes, take_bytes}
 use Rattle.ast.specs.Record.{record_at, member}
 use Rattle.reader.specs.Checking.{lengths, unused}
-use Rattle.reader.proofs.Zeros.{eight}
 
 pub address_word : (at k : ℕ) (s : List ℕ) → k + 4 ≤ 16 → be 4 k (record_at at s).address ≡ be 4 (at + (8 + k)) s
 unfolding record_at
 address_word at k s h = be_bytes 4 k 16 (at + 8) s h ∙ ap (λ p. be 4 p s) (omega arith)
 
--- the eight segments, each by itself
-pub address_segments : (at : ℕ) (s : List ℕ)
-    → segments_at 8 0 (record_at at s).address
-    ≡ be 2 (at + 8) s ∷ be 2 (at + 10) s ∷ be 2 (at + 12) s ∷ be 2 (at + 14) s ∷ be 2 (at + 16) s ∷ be 2 (at + 18) s ∷ be 2 (at + 20) s ∷ be 2 (at + 22) s ∷ []
+-- the eight segments
+pub address_segments : (at : ℕ) (s : List ℕ) → segments_at 8 0 (record_at at s).address ≡ segments_at 8 (at + 8) s
 unfolding record_at
-address_segments at s = segments_bytes 8 0 16 (at + 8) s (omega arith) ∙ ap (λ p. segments_at 8 p s) (omega arith) ∙ eight at s
+address_segments at s = segments_bytes 8 0 16 (at + 8) s (omega arith) ∙ ap (λ p. segments_at 8 p s) (omega arith)
 
--- and the first six bytes
+-- the first six bytes, each by itself
 pub address_bytes : (at : ℕ) (s : List ℕ)
     → take 6 (record_at at s).address ≡ be 1 (at + 8) s ∷ be 1 (at + 9) s ∷ be 1 (at + 10) s ∷ be 1 (at + 11) s ∷ be 1 (at + 12) s ∷ be 1 (at + 13) s ∷ []
 unfolding record_at bytes_at

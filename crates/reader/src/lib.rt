@@ -12,6 +12,7 @@ ghost use Rattle.reader.specs.Checking as C;
 use ast::Node::LeafNode;
 use ast::{Dir, LinkType, Node, Primitive, Proto};
 use error::Refusal;
+use std::array::from_fn;
 
 // The bytes of a file's header and of a record.
 const HEADER: usize = 8;
@@ -187,8 +188,9 @@ pub struct RecordReader<'a> {
     pub index: usize,
 }
 
-// The numbers that start at byte o of the record. Whatever is read of a record is read by these two.
+// Whatever is read of a record is read by the first two.
 impl<'a> RecordReader<'a> {
+    // The numbers that start at byte o of the record.
     #[tactic(auto, using(bpf::proofs::Bytes::be_first))]
     pub fn byte(self, o: usize) -> u8
         requires { (self.index < 128) × (o < 24) × (place self.index + o < length self.tree.now) }
@@ -203,6 +205,30 @@ impl<'a> RecordReader<'a> {
     {
         bpf::be_u16(self.tree, HEADER + RECORD * self.index + o)
     }
+
+    #[tactic(auto, using(crate::proofs::Zeros::be_halves))]
+    pub fn word(self, o: usize) -> u32
+        requires { (self.index < 128) × (o < 22) × (place self.index + o + 3 < length self.tree.now) }
+        ensures { result ≡ be 4 (place self.entry.index + o) self.entry.tree.now }
+    {
+        u32::from(self.half(o)) * 65536 + u32::from(self.half(o + 2))
+    }
+
+    // The eight segments of the record's address.
+    pub fn segments(self) -> [u16; 8]
+        requires { (self.index < 128) × (place self.index + 23 < length self.tree.now) }
+        ensures { result ≡ segments_at 8 (place self.entry.index + 8) self.entry.tree.now }
+    {
+        from_fn(|i| self.half(ADDRESS + 2 * i))
+    }
+
+    // The record's direction.
+    pub fn direction(self) -> Dir
+        requires { (self.index < 128) × (place self.index + 1 < length self.tree.now) }
+        ensures { result ≡ dir_of (be 1 (place self.entry.index + 1) self.entry.tree.now) }
+    {
+        Dir::from(self.byte(DIRECTION))
+    }
 }
 
 // A record that lies whole within its file.
@@ -214,69 +240,42 @@ struct WholeRecord<'a> {
 }
 
 impl<'a> WholeRecord<'a> {
-    // The number of the four bytes from byte o on.
-    #[tactic(auto, using(crate::proofs::Zeros::be_halves))]
-    fn word(self, o: usize) -> u32
-        requires { o < 21 }
-        ensures { result ≡ be 4 (place self.entry.reader.index + o) self.entry.reader.tree.now }
-    {
-        u32::from(self.reader.half(o)) * 65536 + u32::from(self.reader.half(o + 2))
-    }
-
-    // The address as an IPv4 address, and the mask behind that.
+    // The address as an IPv4 address.
     #[tactic(auto, using(crate::proofs::Fields::address_word))]
     fn host(self) -> u32
         ensures { result ≡ be 4 0 (C.fields self.entry.reader).address }
     {
-        self.word(ADDRESS)
+        self.reader.word(ADDRESS)
     }
 
+    // The mask behind that address.
     #[tactic(auto, using(crate::proofs::Fields::address_word))]
     fn mask(self) -> u32
         ensures { result ≡ be 4 4 (C.fields self.entry.reader).address }
     {
-        self.word(ADDRESS + 4)
+        self.reader.word(ADDRESS + 4)
     }
 
-    // The eight segments of an IPv6 address, written out: what `array::from_fn` says of its calls does not give the list.
+    // The address as an IPv6 address.
     #[tactic(auto, using(crate::proofs::Fields::address_segments))]
     fn segments(self) -> [u16; 8]
         ensures { result ≡ segments_at 8 0 (C.fields self.entry.reader).address }
     {
-        let r = self.reader;
-        [
-            r.half(8),
-            r.half(10),
-            r.half(12),
-            r.half(14),
-            r.half(16),
-            r.half(18),
-            r.half(20),
-            r.half(22),
-        ]
+        self.reader.segments()
     }
 
-    // The six bytes of an ether address, written out for the same reason.
-    #[tactic(auto, using(crate::proofs::Fields::address_bytes))]
+    // The six bytes of an ether address.
     fn station(self) -> [u8; 6]
         ensures { result ≡ take 6 (C.fields self.entry.reader).address }
     {
-        let r = self.reader;
-        [
-            r.byte(8),
-            r.byte(9),
-            r.byte(10),
-            r.byte(11),
-            r.byte(12),
-            r.byte(13),
-        ]
+        from_fn(|i| self.reader.byte(ADDRESS + i))
     }
 
     #[tactic(auto, unfolding(ast::specs::Record::record_at))]
     fn direction(self) -> Dir
         ensures { result ≡ dir_of (C.fields self.entry.reader).direction }
     {
-        Dir::from(self.reader.byte(DIRECTION))
+        self.reader.direction()
     }
 
     #[tactic(auto, unfolding(ast::specs::Record::record_at))]
@@ -372,14 +371,14 @@ impl<'a> WholeRecord<'a> {
     fn end_zero(self) -> bool
         ensures { result ≡ eqb (be 8 (place self.entry.reader.index + 16) self.entry.reader.tree.now) 0 }
     {
-        self.word(16) == 0 && self.word(20) == 0
+        self.reader.word(16) == 0 && self.reader.word(20) == 0
     }
 
-    // And four bytes more, at byte 12.
+    // The last twelve bytes are zero.
     fn middle_zero(self) -> bool
         ensures { result ≡ eqb (be 12 (place self.entry.reader.index + 12) self.entry.reader.tree.now) 0 }
     {
-        self.word(12) == 0 && self.end_zero()
+        self.reader.word(12) == 0 && self.end_zero()
     }
 
     // The bytes of its address from the n-th on are zero: word by word, since a chain over the bytes takes up to sixteen steps.
@@ -388,7 +387,7 @@ impl<'a> WholeRecord<'a> {
         ensures { result ≡ C.unused n (C.fields self.entry.reader).address }
     {
         match n {
-            0 => self.word(8) == 0 && self.middle_zero(),
+            0 => self.reader.word(8) == 0 && self.middle_zero(),
             4 => self.middle_zero(),
             6 => self.reader.half(14) == 0 && self.end_zero(),
             8 => self.end_zero(),
