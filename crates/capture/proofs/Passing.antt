@@ -1,6 +1,6 @@
 -- A window, some of its frames passed.
 use Prim.Native.Nat.{ℕ, ◌+◌, ◌-◌, ◌*◌, ◌≤◌}
-use mathlib.Core.Path.{◌≡◌, refl, sym, ap, ◌∙◌}
+use mathlib.Core.Path.{◌≡◌, sym, ap, ◌∙◌}
 use mathlib.Core.List.{List}
 use mathlib.Core.Bool.{cond}
 use native.Mathlib.Omega.{arith}
@@ -25,9 +25,6 @@ pub record Passed (P : List ℕ) (o : Order) (w : List ℕ) (at kept given : ℕ
   pub keeping : kept + passing (keeps P) w (frames o at (drop at w)).pieces ≡ passing (keeps P) w (frames o 0 w).pieces
   pub giving : given + length (frames o at (drop at w)).pieces ≡ length (frames o 0 w).pieces
   pub stop : (frames o at (drop at w)).stop ≡ (frames o 0 w).stop
-
-pub passed_none : {P : List ℕ} {o : Order} {w : List ℕ} → Passed P o w 0 0 0
-passed_none = record { within = omega arith; few = omega arith; headers = omega arith; keeping = omega arith; giving = omega arith; stop = refl }
 
 -- a whole frame at a place of the window
 pub whole_at : (o : Order) (w : List ℕ) (at n : ℕ) → front o (drop at w) ≡ Whole n → Good o w at (piece (at + 16) n)

@@ -277,6 +277,7 @@ impl Stage {
 
 // The whole frames at the front of a window: each is run where it lies.
 // Program and bytes stay parameters: `take_window` is called with them.
+#[tactic(auto, using(crate::proofs::Passing::whole_at, crate::proofs::Passing::frame_few))]
 fn count_window(program: &[u8], order: Order, bytes: &[u8]) -> Step
     ensures { result ≡ T.window program.now order bytes.now }
 {
@@ -306,6 +307,7 @@ fn count_window(program: &[u8], order: Order, bytes: &[u8]) -> Step
 }
 
 // The window of which the file header is the beginning.
+#[tactic(auto, using(crate::proofs::Passing::rest_is, crate::proofs::Joins::window_few))]
 fn first_window(program: &[u8], order: Order, bytes: &[u8]) -> Step
     requires { 24 ≤ length bytes.now }
     ensures { result ≡ T.onto T.file_header (T.window program.now order (drop 24 bytes.now)) }
@@ -361,6 +363,7 @@ pub fn finish(stage: Stage, tally: Tally, left: usize) -> Result<Tally, Halt>
 // ---- a whole file
 
 // A program of a link over each frame of a capture: the capture is one window.
+#[tactic(auto, using(crate::proofs::Turning::step_few, crate::proofs::Turning::one_window))]
 pub fn count(program: &[u8], link: LinkType, capture: &[u8]) -> Result<Tally, Halt>
     ensures { result ≡ C.counted program.now link capture.now }
 {

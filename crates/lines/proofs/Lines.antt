@@ -171,6 +171,3 @@ pub goes_end : {line : List ℕ} {l : List Item} {s : Sum} {at : ℕ} {whole : R
     → reading (closed (length line) (rested s)) (rest_items s l) ≡ whole
 unfolding scans
 goes_end {line} {l} {s} {at} g h = ap (scans (length line) s l) (sym (at_end line at h)) ∙ g.rest
-
-pub goes_start : (line : List ℕ) (l : List Item) → Goes line begin l 0 (scans (length line) begin l (words_from false 0 line))
-goes_start line l = record { inside = omega arith; fit = record { counted = omega arith; opened = omega arith; deep = omega arith }; rest = refl }

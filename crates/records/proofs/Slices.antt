@@ -43,9 +43,6 @@ pub record Popping (depth : ℕ) (o p : Order) : Type 0 where
   pub same : p.from + o.top ≡ o.from + p.top
   pub pops : pop depth (held o) ≡ pop depth (held p)
 
-pub popping_start : (depth : ℕ) (o : Order) → Popping depth o o
-popping_start depth o = record { fewer = omega arith; same = refl; pops = refl }
-
 module _ {depth : ℕ} {o p : Order} (x : Item) (h : Popping depth o p) (some : 0 < p.top) (last : get_or p.items (p.top - 1) (item 0 Not) ≡ x) where
   first : pend p.items p.top ≡ x ∷ pend p.items (p.top - 1)
   first = last_waits p.items p.top some ∙ ap (λ y. y ∷ pend p.items (p.top - 1)) last

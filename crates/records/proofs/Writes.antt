@@ -4,8 +4,8 @@ use mathlib.Core.Path.{◌≡◌, refl, sym, ap, ap₂, ◌∙◌}
 use mathlib.Core.List.{List, [], ◌∷◌, ◌++◌, append_assoc, append-nil}
 use native.Mathlib.Omega.{arith}
 use native.Mathlib.Numerals.{add-one}
-use lib.ListN.{length, take, drop, get_or, length-append, length-drop, take-append-drop}
-use lib.Seq.{take_at, drop_at, drop-drop, length-take-le, take-suc, take-length}
+use lib.ListN.{length, take, drop, get_or, length-append, length-drop}
+use lib.Seq.{take_at, drop_at, drop-drop, length-take-le, take-suc}
 use Rattle.typing.specs.declared.Term.TheVariants.{Named, Bare, Hosts, Ports}
 use Rattle.lines.specs.declared.Entry.{Entry}
 use Rattle.lines.specs.declared.Entry.TheVariants.{Not, Both, Leaf}
@@ -69,12 +69,6 @@ pub record Filling (tree₀ : List ℕ) (xs : List Item) (tree : List ℕ) (i : 
   pub most : i ≤ length xs
   pub wrote : Wrote tree₀ 8 (24 * i) (file_bytes (take i xs)) tree
 
-pub filling_start : (tree₀ : List ℕ) (xs : List Item) → 8 + 24 * length xs ≤ length tree₀ → Filling tree₀ xs tree₀ 0
-filling_start tree₀ xs h = record { most = omega arith; wrote = record { long = refl; fits = omega arith; is = whole } }
-  where
-    whole : tree₀ ≡ take 8 tree₀ ++ [] ++ drop (8 + 24 * 0) tree₀
-    whole = sym (rw (append-nil (take 8 tree₀)) (take-append-drop 8 tree₀))
-
 pub filling_next : {tree₀ tree tree' part : List ℕ} {xs : List Item} {i : ℕ} (d : Item) → Filling tree₀ xs tree i → i < length xs → 8 + 24 * length xs ≤ length tree₀
     → part ≡ entry_bytes (get_or xs i d).entry → tree' ≡ take (8 + 24 * i) tree ++ part ++ drop (8 + 24 * i + length part) tree → Filling tree₀ xs tree' (i + 1)
 filling_next {tree₀} {tree} {tree'} {part} {xs} {i} d f h room p e =
@@ -83,15 +77,3 @@ filling_next {tree₀} {tree} {tree'} {part} {xs} {i} d f h room p e =
     let two = and_then f.wrote one (omega arith) in
     let size : 24 * i + 24 ≡ 24 * (i + 1) = omega arith in
     record { most = omega arith; wrote = rw (size, p, ← file_next xs i d h) at two }
-
-pub filled : {tree₀ tree : List ℕ} {xs : List Item} {i : ℕ} → Filling tree₀ xs tree i → i ≡ length xs → tree ≡ take 8 tree₀ ++ file_bytes xs ++ drop (8 + 24 * length xs) tree₀
-filled {tree₀} {tree} {xs} f e = rw (e, take-length) at f.wrote.is
-
-pub headed : (l m r H F : List ℕ) (n : ℕ) → length H ≡ 8 → m ≡ take 0 l ++ H ++ drop (0 + 8) l → r ≡ take 8 m ++ F ++ drop (8 + n) m → r ≡ (H ++ F) ++ drop (8 + n) l
-headed l m r H F n h e f = f ∙ ap₂ (λ s t. s ++ F ++ t) front back
-  where
-    front : take 8 m ≡ H
-    front = ap (take 8) e ∙ take_at H (drop 8 l) 8 h
-
-    back : drop (8 + n) m ≡ drop (8 + n) l
-    back = sym (drop-drop n 8 m) ∙ (ap (drop n) (ap (drop 8) e ∙ drop_at H (drop 8 l) 8 h) ∙ drop-drop n 8 l)

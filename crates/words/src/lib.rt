@@ -15,6 +15,7 @@ fn find(text: &[u8], stop: u8) -> Option<usize>
 }
 
 // How many bytes stand before the first that is `stop`, or all.
+#[tactic(auto, using(crate::proofs::Scans::until_is))]
 pub fn until(text: &[u8], stop: u8) -> usize
     ensures { (result ≡ length (W.up_to stop text.now)) × (result ≤ length text.now) }
 {
@@ -55,6 +56,7 @@ const BYTE_MOST: u32 = 255;
 const PORT_MOST: u32 = 65535;
 
 // Digits as a number up to a limit; no bytes at all are 0. A digit is widened by `as`: behind `u32::from` the goal stayed open.
+#[tactic(auto, using(crate::proofs::Scans::over_most))]
 fn digits(text: &[u8], most: u32) -> Option<u32>
     requires { most ≤ 65535 }
     ensures { result ≡ counted most 0 text.now }

@@ -1,34 +1,16 @@
 use Rattle.capture.specs.Counting.{keeps}
 use Rattle.capture.specs.Capture.{piece, part}
 use Rattle.capture.specs.declared.Front.TheVariants.{Past, Over}
-use Rattle.capture.proofs.Passing.{passed_next, passed_all, whole_at, frame_few}
+use Rattle.capture.proofs.Passing.{passed_next, passed_all, whole_at}
 use mathlib.Core.Path.{◌≡◌, refl, sym, ap, ◌∙◌}
 use mathlib.Core.Bool.{Bool, true, false, cond}
 use mir.Val.{bool_byte}
 use Prim.Native.Nat.{◌+◌}
-use native.Mathlib.Omega.{arith}
 use Rattle.capture.proofs.count_window.Goals as goal
 
 bit : (b : Bool) → bool_byte b ≡ cond b 1 0
 bit true = refl
 bit false = refl
-
-pub frame-requires : goal.frame-requires
-frame-requires c = let f = whole_at c.args.order c.args.bytes.now c.loop-n.tally.stop c.in-Whole.n (sym c.front.ensures ∙ c.in-Whole.is) in rw f.captured at f.within
-
-pub keeps-requires : goal.keeps-requires
-keeps-requires c =
-    let e = sym c.front.ensures ∙ c.in-Whole.is in
-    rw c.frame.ensures (frame_few c.args.order c.args.bytes.now c.loop-n.tally.stop c.in-Whole.n (whole_at c.args.order c.args.bytes.now c.loop-n.tally.stop c.in-Whole.n e))
-
-pub overflow_add-tally-in-Whole-2 : goal.overflow_add-tally-in-Whole-2
-overflow_add-tally-in-Whole-2 c = omega (arith, (whole_at c.args.order c.args.bytes.now c.loop-n.tally.stop c.in-Whole.n (sym c.front.ensures ∙ c.in-Whole.is)).most)
-
-pub overflow_add-tally-in-Whole-3 : goal.overflow_add-tally-in-Whole-3
-overflow_add-tally-in-Whole-3 c = omega (arith, (whole_at c.args.order c.args.bytes.now c.loop-n.tally.stop c.in-Whole.n (sym c.front.ensures ∙ c.in-Whole.is)).within)
-
-pub loop-n-smaller : goal.loop-n-smaller
-loop-n-smaller c = omega (arith, (whole_at c.args.order c.args.bytes.now c.loop-n.tally.stop c.in-Whole.n (sym c.front.ensures ∙ c.in-Whole.is)).within)
 
 pub loop-n-preserved : goal.loop-n-preserved
 loop-n-preserved c =
