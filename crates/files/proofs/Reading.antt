@@ -29,7 +29,7 @@ use Rattle.capture.specs.Promises.{Sound}
 use Rattle.capture.proofs.Joins.{tally_sound}
 use Rattle.capture.proofs.Turning.{step_few, in_turn}
 use Rattle.files.specs.declared.windows.Progress.{Progress}
-use Rattle.files.specs.Windows.{most, beginning, is_turned, held, behind, Used}
+use Rattle.files.specs.Windows.{most, is_turned, held, behind, Used}
 
 -- ---- tallies
 
@@ -137,18 +137,6 @@ module _ (P : List ℕ) (link : LinkType) where
     pub fits : p.left ≤ length b
     pub few : p.tally.stop + p.left ≤ most + length b
     pub room : is_turned p.stage ≡ false → p.left < length b
-
-  pub starts : (b : List ℕ) (p : Progress) → p ≡ beginning → 1 ≤ length b → Going b b p
-  starts b p e h =
-      rw e (record {
-        cuts = [];
-        so_far = refl;
-        sound = none_sound;
-        long = refl;
-        fits = omega arith;
-        few = omega arith;
-        room = λ t. omega arith;
-      })
 
   module _ (old b : List ℕ) (p : Progress) (g : Going old b p) where
     -- at the end: the count of what was read

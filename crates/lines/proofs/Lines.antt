@@ -20,7 +20,7 @@ use Rattle.words.proofs.Scans.{drop_all, drop_here, take_up_to}
 use Rattle.lines.specs.declared.Item.{Item}
 use Rattle.lines.specs.declared.Move.{Move}
 use Rattle.lines.specs.declared.Sum.{Sum}
-use Rattle.lines.specs.Reads.{moved, moved_by, stored, stored_by, ready, ready_items, move, taken, Reading, reading, scans, begin, closed, rested, rest_items, Fits}
+use Rattle.lines.specs.Reads.{moved, moved_by, stored, stored_by, ready, ready_items, move, taken, Reading, reading, scans, closed, rested, rest_items, Fits}
 use Rattle.lines.proofs.Moves.{steps_fit, fits_more}
 
 -- ---- the words from a place on

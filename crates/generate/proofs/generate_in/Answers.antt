@@ -1,4 +1,4 @@
-use Rattle.std.proofs.Common.{arith, rules, length, ap, ◌∙◌, sym}
+use Rattle.std.proofs.Common.{arith, length, ap, ◌∙◌, sym}
 use Rattle.std.proofs.lemmas.Result.{err_from_is_err_and}
 use lib.ListN.{length-replicate}
 use Rattle.std.proofs.lemmas.List.{length-take-le}
