@@ -4,7 +4,8 @@ use Prim.Native.Nat.{ℕ, ◌+◌, ◌*◌, ◌-◌, ◌≤◌, ◌<◌}
 use mathlib.Core.Path.{◌≡◌, refl, sym, ap, ◌∙◌, subst}
 use mathlib.Core.List.{List, ◌∷◌, ◌++◌}
 use mathlib.Core.Bool.{Bool, true, false, cond}
-use mathlib.Core.Logic.{◌↔◌, ◌⊎◌, inl, inr}
+use mathlib.Core.Logic.{◌↔◌, ◌⊎◌, inl, inr, ⊎_map}
+use mathlib.Core.Logic.Iff as Iff
 use native.Mathlib.Omega.{arith}
 use lib.ListN.{length, replicate, take, drop, take-append-drop}
 use lib.Seq.{take_at, take-length}
@@ -101,6 +102,11 @@ left (Ok p) lent count e = go (too_short lent p) refl e
           bytes = rw t (take_at (program_bytes p) (replicate (lent - 8 * length p) 0) (8 * count) (length_program p ∙ ap (λ n. 8 * n) size));
         }
 
+-- and the room that its program has
+pub fits : (T : List ℕ) (lent count : ℕ) → ◌≡◌ {A = Out ℕ} (Ok count) (build T lent).answer → 8 * count ≤ lent
+unfolding build
+fits T lent count e = (left (program T) lent count (sym e)).fits
+
 -- more lent, or less
 pub more : (p : List Insn) (lent : ℕ) → 8 * length p ≤ lent → (into lent (Ok p)).answer ≡ Ok (length p)
 more p lent h = rw (le-ltb lent (8 * length p) h)
@@ -193,13 +199,6 @@ one_of false v e = inr e
 
 accepted_short : (v : Verdict) → v ≡ Accepted → v ≡ Short → ⊥
 accepted_short v p q = let r : ◌≡◌ {A = ℕ} 0 1 = cc in omega arith
-
-through : {A B C : Type 0} → A ↔ B → B ↔ C → A ↔ C
-through f g = (λ a. g.0 (f.0 a), λ c. f.1 (g.1 c))
-
-given : {A B C D : Type 0} → (A → C) → (B → D) → A ⊎ B → C ⊎ D
-given f g (inl a) = inl (f a)
-given f g (inr b) = inr (g b)
 
 same_link : {o : Out LinkType} {l m : LinkType} → o ≡ Ok l → o ≡ Ok m → l ≡ m
 same_link e h = cc
@@ -296,9 +295,9 @@ module _ (T : List ℕ) (z : AreBytes T) where
         let e : verdict F ≡ cond r Accepted Dropped = sym same ∙ told r (verdict G) (q.met.tells G g.0) (λ s. n (sym same ∙ s)) in
         let d = reading t q.met.parsed G g.1 in
         record {
-          accepted = rw d (through (gets F f.1 Accepted) (accepts r (verdict F) e));
-          dropped = rw d (through (gets F f.1 Dropped) (drops r (verdict F) e));
-          either = given (gets F f.1 Accepted).1 (gets F f.1 Dropped).1 (one_of r (verdict F) e);
+          accepted = rw d (Iff.trans (gets F f.1 Accepted) (accepts r (verdict F) e));
+          dropped = rw d (Iff.trans (gets F f.1 Dropped) (drops r (verdict F) e));
+          either = ⊎_map (gets F f.1 Accepted).1 (gets F f.1 Dropped).1 (one_of r (verdict F) e);
         }
 
     linked : header T ≡ Ok q.met.filter.link

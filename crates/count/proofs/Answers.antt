@@ -7,19 +7,17 @@ use Rattle.std.specs.Prelude.{Ok, Err}
 use Prim.Native.Nat.{ℕ, ◌*◌, ◌≤◌}
 use mathlib.Core.Path.{◌≡◌, refl}
 use mathlib.Core.List.{List}
-use mathlib.Core.Bool.{Bool, true, false}
 use native.Mathlib.Omega.{arith}
-use borrow.Author.Tests.{ltb-true, ltb-false}
 use lib.ListN.{length, take}
+use lib.Seq.{length-take-le}
 use lib.Dec.{ltb}
 use Rattle.error.specs.declared.Refusal.{Refusal}
 use Rattle.error.specs.Answer.{Out}
 use Rattle.error.proofs.All.{either}
-use Rattle.bpf.specs.Bytes.{AreBytes}
 use Rattle.ast.specs.declared.LinkType.{LinkType}
 use Rattle.ast.specs.File.{header}
 use Rattle.build.specs.Build.{build}
-use Rattle.build.proofs.Demands.{defined, kept, demands}
+use Rattle.build.proofs.Demands.{fits}
 use Rattle.capture.specs.declared.Order.{Order}
 use Rattle.capture.specs.Capture.{opened, frames_of}
 use Rattle.capture.specs.Counting.{none, tally_of, ended, over, counted, frames_in}
@@ -28,17 +26,10 @@ use Rattle.capture.proofs.Whole.{gives}
 use Rattle.capture.proofs.Joins.{tally_sound}
 use Rattle.count.specs.Count.{linked, after, count}
 
-pub never : {A : Type 0} {r : Refusal} {n : ℕ} {b : Out ℕ} → b ≡ Ok n → b ≡ Err r → A
-never e h = let z : ◌≡◌ {A = ℕ} 0 1 = cc in absurd (omega arith)
+-- the program that was built has room in the lent buffer
+pub ruleset built = (fits, length-take-le)
 
 module _ (T : List ℕ) (lent : ℕ) where
-  pub fits : AreBytes T → (n : ℕ) → (build T lent).answer ≡ Ok n → 8 * n ≤ lent
-  fits z n e = go (ltb lent (8 * n)) refl
-    where
-      go : (b : Bool) → ltb lent (8 * n) ≡ b → 8 * n ≤ lent
-      go true t = never e ((demands T z (defined T) (kept T)).first.short lent n e lent (ltb-true lent (8 * n) t))
-      go false t = ltb-false lent (8 * n) t
-
   module _ (s : List ℕ) where
     pub count-own : (r : Refusal) → (build T lent).answer ≡ Err r → (count T lent s).answer ≡ Err (halt r none)
     unfolding count

@@ -8,6 +8,7 @@ use mathlib.Core.Path.{◌≡◌, refl, sym, ap, ◌∙◌}
 use mathlib.Core.List.{List, [], ◌∷◌}
 use mathlib.Core.Bool.{Bool, true, false, ◌&&◌}
 use mathlib.Core.Logic.{◌↔◌}
+use mathlib.Core.Logic.Iff as Iff
 use native.Mathlib.Omega.{arith}
 use borrow.Author.Tests.{leb-true, ltb-true, ltb-false, lt-ltb, le-ltb}
 use lib.ListN.{length, take, drop, get_or, length-take, length-drop, get_or-eq_default}
@@ -57,12 +58,6 @@ same_test : (a b : Bool) → ((a ≡ true) ↔ (b ≡ true)) → a ≡ b
 same_test true b h = sym (h.0 refl)
 same_test false true h = h.1 refl
 same_test false false h = refl
-
-through : {A B C : Type 0} → A ↔ B → B ↔ C → A ↔ C
-through f g = (λ a. g.0 (f.0 a), λ c. f.1 (g.1 c))
-
-back : {A B : Type 0} → A ↔ B → B ↔ A
-back f = (f.1, f.0)
 
 -- ---- a part of a capture
 
@@ -116,7 +111,7 @@ module _ (T : List ℕ) (zT : AreBytes T) (c : Calls) (k : Kept T c) (lent : ℕ
         let F = part s p in
         let f : Frame F = (part_bytes s zS p, omega arith) in
         let d = ((demands T zT c.base k.base).third lent n a F F f f (take-length F)).there link e (omega arith) in
-        same_test (keeps c P F) (holds c F) (through (has_verdict (c.base.ran P F)) (through d.accepted (back (is_true_lem (c.base.read F)))))
+        same_test (keeps c P F) (holds c F) (Iff.trans (has_verdict (c.base.ran P F)) (Iff.trans d.accepted (Iff.symm (is_true_lem (c.base.read F)))))
 
     both_at : (p : Piece) → length (part s p) ≡ p.size → p.size ≤ 65535
         → (reaches link (part s p) && keeps c P (part s p)) ≡ (reaches link (part s p) && holds c (part s p))
