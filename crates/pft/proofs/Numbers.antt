@@ -1,26 +1,18 @@
 -- Answers as numbers: a refusal beyond 256, and no more steps than 16 bits hold.
 use Rattle.std.specs.Prelude.{Ok, Err}
-use Prim.Native.Nat.{ℕ, ◌+◌, ◌/◌, ◌≤◌}
+use Prim.Native.Nat.{ℕ, ◌/◌, ◌≤◌}
 use mathlib.Core.Bool.{Bool, true, false, cond}
 use mathlib.Core.Path.{◌≡◌, refl}
 use mathlib.Core.List.{List}
 use native.Mathlib.Omega.{arith}
 use lib.ListN.{length}
-use borrow.Author.Tests.{ne_eqb}
-use Rattle.error.specs.declared.Refusal.{Refusal}
 use Rattle.error.specs.declared.Refusal.TheVariants.{LongFrame, OddProgram}
-use Rattle.error.specs.Answer.{number_of}
 use Rattle.bpf.specs.Program.{insns_at}
 use Rattle.bpf.specs.Bytes.{long_frame}
 use Rattle.bpf.proofs.Programs.{length_insns}
 use Rattle.vm.specs.Machine.{inner, odd_program, run, steps_of}
 use Rattle.vm.proofs.Steps.{inner_steps}
 use Rattle.machine.proofs.Entry.{odd_long}
-use Rattle.pft.specs.Numbers.{beyond}
-
--- the number of a refusal as code makes it
-pub beyond_of : (r : Refusal) (n : ℕ) → n ≡ number_of r → 1 ≤ n → 256 + n ≡ beyond (number_of r)
-beyond_of r n e h = rw (← e, ne_eqb n 0 (λ z. omega arith))
 
 -- a program of at most 32,768 bytes has at most 4,096 instructions, and a run no more steps
 pub run_steps : (p f : List ℕ) → steps_of (run p f) ≤ 4096
