@@ -73,7 +73,7 @@ impl<R, A: Print, M: Print> Session<'_, R, A, M> {
 // ---- the subcommands
 
 // The program of a tree, at the start of a buffer: lent bytes, as the build takes them.
-#[tactic(auto, using(crate::proofs::Built::fits))]
+#[tactic(auto, using(build::proofs::Demands::fits))]
 fn program_of<'a>(tree: &[u8], buffer: &'a mut [u8; 32768]) -> Result<&'a [u8], Refusal> {
     match build::build(tree, buffer) {
         Ok(count) => Ok(&buffer[..8 * count as usize]),
