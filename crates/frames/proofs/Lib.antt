@@ -1,1 +1,3 @@
+pub mod Commands
 pub mod Numbered
+pub mod Spelled

@@ -1,5 +1,5 @@
 // The program's arguments. Argument 0 is the program's name.
-ghost use Rattle.std.specs.Prelude.{◌≡◌, ◌≤◌, ◌<◌, ℕ, length, slice_index_or, IfOk};
+ghost use Rattle.std.specs.Prelude.{◌≡◌, ◌≤◌, ◌<◌, ℕ, [], length, slice_index_or, IfOk, IfErr};
 ghost use Rattle.frames.specs.declared.argument.Argument.{Argument};
 
 use std::env::FillError;
@@ -23,8 +23,12 @@ pub struct Argument {
 }
 
 impl Argument {
+    ghost use Rattle.frames.specs.Words.{bytes_up_to, word_of};
+
     fn up_to(&self, most: usize) -> Result<&[u8]>
-        ensures { IfOk result (λ bytes. length bytes.now ≤ most) }
+        ensures bound { IfOk result (λ bytes. length bytes.now ≤ most) }
+        ensures whole { IfOk result (λ bytes. bytes.now ≡ bytes_up_to most self.now.bytes) }
+        ensures none { IfErr result (λ _. bytes_up_to most self.now.bytes ≡ []) }
     {
         match &self.bytes {
             Some(bytes) if bytes.len() <= most => Ok(bytes.as_slice()),
@@ -34,7 +38,9 @@ impl Argument {
 
     // As a file's name.
     pub(crate) fn path(&self) -> Result<&[u8]>
-        ensures { IfOk result (λ bytes. length bytes.now ≤ 4096) }
+        ensures bound { IfOk result (λ bytes. length bytes.now ≤ 4096) }
+        ensures whole { IfOk result (λ bytes. bytes.now ≡ word_of self.now) }
+        ensures none { IfErr result (λ _. word_of self.now ≡ []) }
     {
         self.up_to(PATH)
     }
@@ -46,7 +52,8 @@ impl Argument {
 
     // As a word of the command. One that is longer than a path counts as an empty one.
     pub fn word(&self) -> &[u8]
-        ensures { length result.now ≤ 4096 }
+        ensures bound { length result.now ≤ 4096 }
+        ensures whole { result.now ≡ word_of self.now }
     {
         self.path().unwrap_or(b"")
     }

@@ -1,4 +1,6 @@
 // `pft count`: what is answered of a capture, how many of its frames a program keeps.
+ghost use Rattle.std.specs.Prelude.{◌≡◌, ◌<◌, length};
+
 use crate::argument::Argument;
 use crate::said::{LinkName, Name, Refused};
 use crate::tree::Behind;
@@ -95,7 +97,9 @@ impl<R: Files + Input + AllocGlobal, A: Print, M: Print> Session<'_, R, A, M> {
     }
 
     // A tree, and the captures whose frames its program counts.
-    pub fn count(&self, arguments: &[Argument]) -> Work<Ended> {
+    pub(crate) fn count(&self, arguments: &[Argument]) -> Work<Ended>
+        ensures { length arguments.now < 2 → result ≡ Err Ended.Usage }
+    {
         let given = self.tree(arguments, Behind::Files)?;
         let mut buffer = [0u8; 32768];
         let program = match program_of(&given.tree, &mut buffer) {

@@ -1,7 +1,9 @@
 // What `pft` answers and says: its subcommands over trees, which are files or typed lines, frame files and captures by name.
 #![tactic(auto)]
 
-ghost use Rattle.std.specs.Prelude.{◌≡◌, length};
+ghost use Rattle.std.specs.Prelude.{◌≡◌, ◌≢◌, ◌<◌, length, Contains, MatchResult, codes};
+ghost use Rattle.frames.specs.Words.{IfCommand, IfWord, commands, links, over_frames};
+ghost use Rattle.frames.specs.Endings.{NotUsage};
 
 mod argument;
 mod count;
@@ -41,18 +43,24 @@ impl<R, A: Print, M: Print> Session<'_, R, A, M> {
         let _ = name.put_line(&self.messages, said);
     }
 
-    fn refused(&self, name: Name, r: Refusal) -> Ended {
+    fn refused(&self, name: Name, r: Refusal) -> Ended
+        ensures { result ≡ Ended.Refused }
+    {
         self.say(name, Refused(r));
         Ended::Refused
     }
 
-    fn unread(&self, name: Name, error: Error) -> Ended {
+    fn unread(&self, name: Name, error: Error) -> Ended
+        ensures { result ≡ Ended.Failed }
+    {
         self.say(name, Unread(error));
         Ended::Failed
     }
 
     // After an answer, which ends the work where it could not be written.
-    fn answered(&self, written: io::Result<()>) -> Work<Ended> {
+    fn answered(&self, written: io::Result<()>) -> Work<Ended>
+        ensures { MatchResult written (λ _. result ≡ Ok Ended.Done) (λ _. result ≡ Err Ended.Failed) }
+    {
         match written {
             Ok(()) => Ok(Ended::Done),
             Err(error) => {
@@ -83,7 +91,16 @@ fn program_of<'a>(tree: &[u8], buffer: &'a mut [u8; 32768]) -> Result<&'a [u8], 
 
 impl<R: Files + Input + AllocGlobal, A: Print, M: Print> Session<'_, R, A, M> {
     fn subcommand(&self, arguments: &[Argument]) -> Work<Ended>
-        ensures { length arguments.now ≡ 0 → result ≡ Err Ended.Usage }
+        ensures none { length arguments.now ≡ 0 → result ≡ Err Ended.Usage }
+        ensures unknown { IfWord arguments.now 0 (λ command. ¬ Contains commands command → result ≡ Err Ended.Usage) }
+        ensures line { IfCommand arguments.now (codes "type") (length arguments.now ≢ 3 → result ≡ Err Ended.Usage) }
+        ensures link { IfCommand arguments.now (codes "type")
+            (IfWord arguments.now 1 (λ link. ¬ Contains links link → result ≡ Err Ended.Usage)) }
+        ensures typed { IfCommand arguments.now (codes "type")
+            (length arguments.now ≡ 3 → IfWord arguments.now 1 (λ link. Contains links link → NotUsage result)) }
+        ensures size { IfCommand arguments.now (codes "size") (length arguments.now < 2 → result ≡ Err Ended.Usage) }
+        ensures files { IfWord arguments.now 0
+            (λ command. Contains over_frames command → length arguments.now < 3 → result ≡ Err Ended.Usage) }
     {
         let Some((command, rest)) = arguments.split_first() else {
             return Err(Ended::Usage);
@@ -99,14 +116,27 @@ impl<R: Files + Input + AllocGlobal, A: Print, M: Print> Session<'_, R, A, M> {
     }
 
     // The tree file of a typed line.
-    fn write(&self, arguments: &[Argument]) -> Work<Ended> {
+    fn write(&self, arguments: &[Argument]) -> Work<Ended>
+        ensures number { length arguments.now ≢ 2 → result ≡ Err Ended.Usage }
+        ensures unlinked { IfWord arguments.now 0 (λ link. ¬ Contains links link → result ≡ Err Ended.Usage) }
+        ensures right { length arguments.now ≡ 2 → IfWord arguments.now 0 (λ link. Contains links link → NotUsage result) }
+    {
         let given = self.typed(arguments, Behind::Nothing)?;
         self.answered(self.answers.write_all(&given.tree))
     }
 
     // What `pft` does with its arguments, and how that ended. Of wrong usage it says nothing: the script that starts it has the help.
     pub fn pft(&self, arguments: &[Argument]) -> Ended
-        ensures { length arguments.now ≡ 0 → result ≡ Ended.Usage }
+        ensures none { length arguments.now ≡ 0 → result ≡ Ended.Usage }
+        ensures unknown { IfWord arguments.now 0 (λ command. ¬ Contains commands command → result ≡ Ended.Usage) }
+        ensures line { IfCommand arguments.now (codes "type") (length arguments.now ≢ 3 → result ≡ Ended.Usage) }
+        ensures link { IfCommand arguments.now (codes "type")
+            (IfWord arguments.now 1 (λ link. ¬ Contains links link → result ≡ Ended.Usage)) }
+        ensures typed { IfCommand arguments.now (codes "type")
+            (length arguments.now ≡ 3 → IfWord arguments.now 1 (λ link. Contains links link → result ≢ Ended.Usage)) }
+        ensures size { IfCommand arguments.now (codes "size") (length arguments.now < 2 → result ≡ Ended.Usage) }
+        ensures files { IfWord arguments.now 0
+            (λ command. Contains over_frames command → length arguments.now < 3 → result ≡ Ended.Usage) }
     {
         match self.subcommand(arguments) {
             Ok(ended) | Err(ended) => ended,
@@ -114,7 +144,9 @@ impl<R: Files + Input + AllocGlobal, A: Print, M: Print> Session<'_, R, A, M> {
     }
 
     // Document 01's listing of standard input.
-    pub fn pft_list(&self) -> Ended {
+    pub fn pft_list(&self) -> Ended
+        ensures { result ≢ Ended.Usage }
+    {
         match self.list_input() {
             Ok(ended) | Err(ended) => ended,
         }

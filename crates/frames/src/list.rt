@@ -1,4 +1,6 @@
 // `pft list`, and document 01's listing.
+ghost use Rattle.frames.specs.Endings.{NotUsage};
+
 use crate::argument::Argument;
 use crate::tree::Behind;
 use crate::{Ended, Session, Work, program_of};
@@ -27,12 +29,14 @@ fn form_and_rest(arguments: &[Argument]) -> (Form, &[Argument]) {
 }
 
 impl<R: Files + Input + AllocGlobal, A: Print, M: Print> Session<'_, R, A, M> {
-    fn put_listing(&self, program: &[u8], form: Form) -> Work<Ended> {
+    fn put_listing(&self, program: &[u8], form: Form) -> Work<Ended>
+        ensures { NotUsage result }
+    {
         self.answered(self.answers.print(Listing { program, form }))
     }
 
     // A tree, or none for standard input.
-    pub fn list(&self, arguments: &[Argument]) -> Work<Ended> {
+    pub(crate) fn list(&self, arguments: &[Argument]) -> Work<Ended> {
         let (form, rest) = form_and_rest(arguments);
         let given = if rest.is_empty() {
             self.input_tree()?
@@ -47,7 +51,9 @@ impl<R: Files + Input + AllocGlobal, A: Print, M: Print> Session<'_, R, A, M> {
     }
 
     // Document 01's listing of standard input, with a refusal in its place.
-    pub fn list_input(&self) -> Work<Ended> {
+    pub(crate) fn list_input(&self) -> Work<Ended>
+        ensures { NotUsage result }
+    {
         let given = self.input_tree()?;
         let mut buffer = [0u8; 32768];
         match program_of(&given.tree, &mut buffer) {

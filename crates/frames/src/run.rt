@@ -1,4 +1,6 @@
 // `pft run`: what is answered of a frame file, its verdict and its direct reading.
+ghost use Rattle.std.specs.Prelude.{◌≡◌, ◌<◌, length};
+
 use crate::argument::Argument;
 use crate::said::{Name, VerdictWord};
 use crate::tree::Behind;
@@ -60,7 +62,9 @@ impl<R: Files + Input + AllocGlobal, A: Print, M: Print> Session<'_, R, A, M> {
     }
 
     // A tree, and the frames that its program runs over. Without a program a frame may still be read directly.
-    pub fn run(&self, arguments: &[Argument]) -> Work<Ended> {
+    pub(crate) fn run(&self, arguments: &[Argument]) -> Work<Ended>
+        ensures { length arguments.now < 2 → result ≡ Err Ended.Usage }
+    {
         let given = self.tree(arguments, Behind::Files)?;
         let tree = given.tree.as_slice();
         let mut buffer = [0u8; 32768];

@@ -1,4 +1,6 @@
 // `pft size`: how many instructions the program of each tree has, by the question, which makes no program.
+ghost use Rattle.std.specs.Prelude.{◌≡◌, length};
+
 use crate::argument::Argument;
 use crate::over::names_input_twice;
 use crate::said::Name;
@@ -32,7 +34,9 @@ impl<R: Files + Input + AllocGlobal, A: Print, M: Print> Session<'_, R, A, M> {
     }
 
     // One tree file or more by name, or `--type` with a link and a line, alone.
-    pub fn size(&self, arguments: &[Argument]) -> Work<Ended> {
+    pub(crate) fn size(&self, arguments: &[Argument]) -> Work<Ended>
+        ensures { length arguments.now ≡ 0 → result ≡ Err Ended.Usage }
+    {
         let Some(first) = arguments.first() else {
             return Err(Ended::Usage);
         };

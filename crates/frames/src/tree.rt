@@ -1,4 +1,6 @@
 // The tree that a command is given, a file by name or a line after `--type`.
+ghost use Rattle.std.specs.Prelude.{◌≡◌, ◌≢◌, ◌<◌, ◌↔◌, length, IsTrue};
+
 use crate::argument::Argument;
 use crate::over::names_input_twice;
 use crate::said::Name;
@@ -14,7 +16,10 @@ pub enum Behind {
 }
 
 impl Behind {
-    pub fn fits(self, files: &[Argument]) -> bool {
+    pub fn fits(self, files: &[Argument]) -> bool
+        ensures nothing { self ≡ Behind.Nothing → (IsTrue result ↔ (length files.now ≡ 0)) }
+        ensures files { self ≡ Behind.Files → (IsTrue result ↔ (0 < length files.now)) }
+    {
         match self {
             Behind::Nothing => files.is_empty(),
             Behind::Files => !files.is_empty(),
@@ -36,7 +41,9 @@ pub const TREE_BYTES: usize = 4096;
 
 impl<R: Files + Input + AllocGlobal, A: Print, M: Print> Session<'_, R, A, M> {
     // A tree file by name.
-    pub fn tree_file<'a>(&self, path: &'a [u8], files: &'a [Argument]) -> Work<Given<'a>> {
+    pub(crate) fn tree_file<'a>(&self, path: &'a [u8], files: &'a [Argument]) -> Work<Given<'a>>
+        ensures { result ≢ Err Ended.Usage }
+    {
         let name = Name::File(path);
         match files::read(self.rt, path, TREE_BYTES) {
             Ok(tree) => Ok(Given { name, tree, files }),
@@ -45,12 +52,16 @@ impl<R: Files + Input + AllocGlobal, A: Print, M: Print> Session<'_, R, A, M> {
     }
 
     // A tree file from standard input.
-    pub fn input_tree(&self) -> Work<Given<'static>> {
+    pub(crate) fn input_tree(&self) -> Work<Given<'static>>
+        ensures { result ≢ Err Ended.Usage }
+    {
         self.tree_file(b"-", &[])
     }
 
     // A tree, which is a name or `--type` with a link and a line, and the files behind it.
-    pub fn tree<'a>(&self, arguments: &'a [Argument], behind: Behind) -> Work<Given<'a>> {
+    pub(crate) fn tree<'a>(&self, arguments: &'a [Argument], behind: Behind) -> Work<Given<'a>>
+        ensures { behind ≡ Behind.Files → length arguments.now < 2 → result ≡ Err Ended.Usage }
+    {
         let Some((first, files)) = arguments.split_first() else {
             return Err(Ended::Usage);
         };

@@ -1,4 +1,7 @@
 // A line that is typed, in two arguments, its link and its text: its tree, or why it has none.
+ghost use Rattle.std.specs.Prelude.{◌≡◌, ◌≢◌, ◌<◌, ◌↔◌, length, IsSome, Contains};
+ghost use Rattle.frames.specs.Words.{IfWord, links};
+
 use crate::argument::Argument;
 use crate::over::names_input_twice;
 use crate::said::{Name, Refused};
@@ -10,7 +13,9 @@ use std::io::{Error, Input, Print};
 use std::rt::Files;
 
 // A link's byte in a tree file, by number or name.
-fn link_of(word: &[u8]) -> Option<u8> {
+fn link_of(word: &[u8]) -> Option<u8>
+    ensures { IsSome result ↔ Contains links word.now }
+{
     match word {
         b"1" | b"ethernet" => Some(1),
         b"2" | b"raw" => Some(2),
@@ -57,7 +62,9 @@ impl<R: Files + Input + AllocGlobal, A: Print, M: Print> Session<'_, R, A, M> {
         print!(to; "\n")
     }
 
-    fn turned_down(&self, fault: Fault) -> Ended {
+    fn turned_down(&self, fault: Fault) -> Ended
+        ensures { result ≡ Ended.Refused }
+    {
         let _ = self.put_fault(fault);
         Ended::Refused
     }
@@ -65,7 +72,9 @@ impl<R: Files + Input + AllocGlobal, A: Print, M: Print> Session<'_, R, A, M> {
     // ---- a line
 
     // A tree of a line goes by what is shown of the line.
-    fn typed_line<'a>(&self, link: u8, line: &'a [u8], files: &'a [Argument]) -> Work<Given<'a>> {
+    fn typed_line<'a>(&self, link: u8, line: &'a [u8], files: &'a [Argument]) -> Work<Given<'a>>
+        ensures { result ≢ Err Ended.Usage }
+    {
         // Lent bytes, as the typing takes them.
         let name = Name::Line(hints::show(line, 0));
         let mut room = [0u8; 3080];
@@ -97,13 +106,17 @@ impl<R: Files + Input + AllocGlobal, A: Print, M: Print> Session<'_, R, A, M> {
         print!(to; ": no link; the links are ethernet (1), raw (2) and cooked (3)\n")
     }
 
-    fn no_link(&self, word: &[u8]) -> Ended {
+    fn no_link(&self, word: &[u8]) -> Ended
+        ensures { result ≡ Ended.Usage }
+    {
         let _ = self.put_no_link(word);
         Ended::Usage
     }
 
     // Words behind the line may be its own.
-    fn misfit(&self, files: &[Argument]) -> Ended {
+    fn misfit(&self, files: &[Argument]) -> Ended
+        ensures { result ≡ Ended.Usage }
+    {
         if !files.is_empty() {
             let to = &self.messages;
             let _ = print!(to; "the line is one argument: put it in quotes\n");
@@ -112,7 +125,13 @@ impl<R: Files + Input + AllocGlobal, A: Print, M: Print> Session<'_, R, A, M> {
     }
 
     // A link, a line, and the files behind them.
-    pub fn typed<'a>(&self, arguments: &'a [Argument], behind: Behind) -> Work<Given<'a>> {
+    pub(crate) fn typed<'a>(&self, arguments: &'a [Argument], behind: Behind) -> Work<Given<'a>>
+        ensures few { length arguments.now < 2 → result ≡ Err Ended.Usage }
+        ensures many { behind ≡ Behind.Nothing → length arguments.now ≢ 2 → result ≡ Err Ended.Usage }
+        ensures unlinked { IfWord arguments.now 0 (λ link. ¬ Contains links link → result ≡ Err Ended.Usage) }
+        ensures right { behind ≡ Behind.Nothing → length arguments.now ≡ 2
+            → IfWord arguments.now 0 (λ link. Contains links link → result ≢ Err Ended.Usage) }
+    {
         let [first, line, files @ ..] = arguments else {
             return Err(Ended::Usage);
         };
