@@ -1,20 +1,42 @@
 -- The note of a record from those of the records after it.
 use Prim.Native.Nat.{ℕ, ◌+◌, ◌*◌, ◌<◌}
-use mathlib.Core.Path.{◌≡◌}
+use mathlib.Core.Path.{◌≡◌, ap, ◌∙◌}
+use mathlib.Core.Logic.{◌⊎◌, inl, inr}
 use mathlib.Core.List.{List}
 use native.Mathlib.Omega.{arith}
-use Rattle.std.proofs.Common.{Fits, w64}
+use Rattle.std.proofs.Common.{Fits, w64, Ok}
 use lib.ListN.{length, get_or}
+use Rattle.ast.specs.declared.Node.{Node}
+use Rattle.ast.specs.declared.Node.TheVariants.{AndNode, OrNode, NotNode, LeafNode}
 use Rattle.ast.specs.declared.Primitive.{Primitive}
+use Rattle.ast.specs.Record.{node_at}
 use Rattle.ast.specs.Tree.{Expr, And, Or}
 use Rattle.ast.specs.File.{count_of}
 use Rattle.codegen.specs.declared.GuardSet.{GuardSet}
 use Rattle.codegen.specs.Facts.{no_guards, union, intersect}
 use Rattle.codegen.specs.Guards.{primitive_guards, required_guards}
-use Rattle.reader.specs.Reader.{end_of}
-use Rattle.reader.proofs.Here.{TwoParts, OnePart, NoPart}
+use Rattle.reader.specs.Reader.{place, end_of, Here}
+use Rattle.reader.proofs.Here.{TwoParts, OnePart, NoPart, here_and, here_or}
 use Rattle.guards.specs.declared.Note.{Note}
 use Rattle.guards.specs.Notes.{note_of, Next}
+
+-- ---- a join
+
+abbrev join_of : Node → Expr → Expr → Expr
+join_of OrNode = Or
+join_of AndNode = And
+join_of NotNode = And
+join_of (LeafNode p) = And
+
+pub two_parts : {s : List ℕ} {i : ℕ} {n : Node} → Here s i → node_at (place i) s ≡ Ok n → (n ≡ AndNode) ⊎ (n ≡ OrNode) → TwoParts (join_of n) s i
+two_parts h e (inl p) = rw p (here_and h (e ∙ ap Ok p))
+two_parts h e (inr p) = rw p (here_or h (e ∙ ap Ok p))
+
+pub other_join : {n : Node} → (n ≡ AndNode) ⊎ (n ≡ OrNode) → (n ≡ AndNode → ⊥) → n ≡ OrNode
+other_join (inl p) h = absurd (h p)
+other_join (inr p) h = p
+
+-- ---- notes
 
 abbrev made : GuardSet → ℕ → Note
 made g e = record { guards = g; end = e }

@@ -75,26 +75,21 @@ fn primitive_guards(p: Primitive) -> GuardSet
 // ---- a tree
 
 // The note of record i, where those after it are noted. "A negated check proves nothing about what its parent requires".
-#[tactic(auto, using(reader::proofs::Here::here_and, reader::proofs::Here::here_or, reader::proofs::Here::here_not, crate::proofs::Noting::and_note, crate::proofs::Noting::or_note, crate::proofs::Noting::not_note))]
+#[tactic(auto, using(reader::proofs::Here::here_not, crate::proofs::Noting::not_note))]
 fn note_at(tree: &[u8], notes: &[Note], i: usize) -> Note
     requires { N.Next tree.now notes.now i }
     ensures { result ≡ N.note_of tree.now i }
 {
     match reader::node(tree, i) {
-        // The arms of and and or differ in the operator alone; a function for both would take it as a closure for two calls.
-        Node::AndNode => {
+        join @ (Node::AndNode | Node::OrNode) => {
             let left = notes[i + 1];
             let right = notes[left.end];
+            let guards = match join {
+                Node::AndNode => left.guards.union(right.guards),
+                _ => left.guards.intersect(right.guards),
+            };
             Note {
-                guards: left.guards.union(right.guards),
-                end: right.end,
-            }
-        }
-        Node::OrNode => {
-            let left = notes[i + 1];
-            let right = notes[left.end];
-            Note {
-                guards: left.guards.intersect(right.guards),
+                guards,
                 end: right.end,
             }
         }
