@@ -7,6 +7,18 @@ ghost use Rattle.codegen.specs.Facts as F;
 
 use bpf::Insn;
 
+// The ethertypes of IPv4 and IPv6.
+pub const IPV4: u32 = 0x0800;
+
+pub const IPV6: u32 = 0x86dd;
+
+// The numbers of the protocols that have ports.
+pub const TCP: u32 = 6;
+
+pub const UDP: u32 = 17;
+
+pub const SCTP: u32 = 132;
+
 // The set of L4 protocol numbers that a port prologue admits: one, or TCP and UDP.
 #[derive(Clone, Copy, Debug, PartialEq, Eq)]
 pub enum L4Set {
@@ -20,7 +32,7 @@ impl L4Set {
     {
         match self {
             L4Set::One(x) => p == x,
-            L4Set::TcpOrUdp => p == 6 || p == 17,
+            L4Set::TcpOrUdp => p == TCP || p == UDP,
         }
     }
 

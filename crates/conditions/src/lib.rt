@@ -13,7 +13,7 @@ ghost use Rattle.emit.specs.Grown.{Place, Space, Room, Grows, Replies};
 ghost use Rattle.conditions.specs.Loads as L;
 
 use ast::{Dir, LinkType};
-use codegen::{Exit, Facts, Line, Op, Side, Slot, Test, Width};
+use codegen::{Exit, Facts, IPV4, IPV6, Line, Op, Side, Slot, Test, Width};
 use emit::Emitter;
 use error::Refusal;
 use nets::{FULL, Net6, net6_of};
@@ -52,8 +52,8 @@ impl Version {
         ensures { result ≡ L.ether_of self }
     {
         match self {
-            Version::V4 => 0x0800,
-            Version::V6 => 0x86dd,
+            Version::V4 => IPV4,
+            Version::V6 => IPV6,
         }
     }
 
@@ -95,7 +95,7 @@ pub fn emit_ethertype(e: &mut Emitter<'_>, et: u32) -> Result<(), Refusal>
     ensures { Replies (E.emit_ethertype e.old.link et e.old.facts) e.old e.new result }
 {
     let Some(off) = ether_proto_offset(e.link) else {
-        return if et == 0x0800 {
+        return if et == IPV4 {
             Ok(())
         } else {
             Err(Refusal::KindOnRaw)
@@ -291,7 +291,7 @@ pub fn emit_net(e: &mut Emitter<'_>, dir: Dir, mask: Option<u32>, k: u32) -> Res
     requires { Room 8 e.old }
     ensures { Replies (E.guarded e.old.link 0x0800 (E.check_loads dir k (L.load (LdAbs Word (E.net_offset e.old.link + 12)) mask) (L.load (LdAbs Word (E.net_offset e.old.link + 16)) mask)) e.old.facts) e.old e.new result }
 {
-    emit_ethertype(e, 0x0800)?;
+    emit_ethertype(e, IPV4)?;
     let n = net_offset(e.link);
     let src = Op::LdAbs(Width::Word, n + 12);
     let dst = Op::LdAbs(Width::Word, n + 16);
@@ -310,7 +310,7 @@ pub fn emit_net6(
     requires { Room 37 e.old }
     ensures { Replies (E.guarded e.old.link 0x86dd (E.check_blocks dir (E.check_net6 prefix (E.net_offset e.old.link + 8) segments) (E.check_net6 prefix (E.net_offset e.old.link + 24) segments)) e.old.facts) e.old e.new result }
 {
-    emit_ethertype(e, 0x86dd)?;
+    emit_ethertype(e, IPV6)?;
     let n = net_offset(e.link);
     check_sides(e, dir, &net6_of(prefix, segments), n + 8, n + 24);
     Ok(())
@@ -322,7 +322,7 @@ pub fn emit_ip_broadcast(e: &mut Emitter<'_>) -> Result<(), Refusal>
     requires { Space 4 e.old }
     ensures { Replies (E.emit_primitive e.old.link IpBroadcast e.old.facts) e.old e.new result }
 {
-    emit_ethertype(e, 0x0800)?;
+    emit_ethertype(e, IPV4)?;
     let n = net_offset(e.link);
     e.check(Width::Word, n + 16, 0xffff_ffff);
     Ok(())
@@ -333,7 +333,7 @@ pub fn emit_ip_multicast(e: &mut Emitter<'_>) -> Result<(), Refusal>
     requires { Space 5 e.old }
     ensures { Replies (E.emit_primitive e.old.link IpMulticast e.old.facts) e.old e.new result }
 {
-    emit_ethertype(e, 0x0800)?;
+    emit_ethertype(e, IPV4)?;
     let n = net_offset(e.link);
     check_load(
         e,
@@ -349,7 +349,7 @@ pub fn emit_ip6_multicast(e: &mut Emitter<'_>) -> Result<(), Refusal>
     requires { Space 4 e.old }
     ensures { Replies (E.emit_primitive e.old.link Ip6Multicast e.old.facts) e.old e.new result }
 {
-    emit_ethertype(e, 0x86dd)?;
+    emit_ethertype(e, IPV6)?;
     let n = net_offset(e.link);
     e.check(Width::Byte, n + 24, 0xff);
     Ok(())

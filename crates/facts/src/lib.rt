@@ -8,7 +8,7 @@ ghost use Rattle.codegen.specs.Guards.{primitive_guards};
 ghost use Rattle.codegen.specs.Compile.{entry_facts};
 
 use ast::{LinkType, Proto};
-use codegen::{Facts, GuardSet, L4Set, Row, RowNumber};
+use codegen::{Facts, GuardSet, IPV4, IPV6, L4Set, Row, RowNumber, SCTP, TCP, UDP};
 use error::Refusal;
 
 // The set of a port condition by its protocol.
@@ -17,9 +17,9 @@ pub fn l4set_for(protocol: Option<Proto>) -> Result<L4Set, Refusal>
 {
     match protocol {
         None => Ok(L4Set::TcpOrUdp),
-        Some(Proto::Tcp) => Ok(L4Set::One(6)),
-        Some(Proto::Udp) => Ok(L4Set::One(17)),
-        Some(Proto::Sctp) => Ok(L4Set::One(132)),
+        Some(Proto::Tcp) => Ok(L4Set::One(TCP)),
+        Some(Proto::Udp) => Ok(L4Set::One(UDP)),
+        Some(Proto::Sctp) => Ok(L4Set::One(SCTP)),
         Some(_) => Err(Refusal::PortProtocol),
     }
 }
@@ -28,7 +28,7 @@ pub fn entry_facts(link: LinkType) -> Facts
     ensures { result ≡ entry_facts link }
 {
     match link {
-        LinkType::RawIp => Facts::none().learn_ethertype(0x0800),
+        LinkType::RawIp => Facts::none().learn_ethertype(IPV4),
         LinkType::Ethernet | LinkType::LinuxSll => Facts::none(),
     }
 }
@@ -38,12 +38,12 @@ pub fn entry_facts(link: LinkType) -> Facts
 // Document 01 has the twelve protocols as rows of one table.
 const PROTOCOLS: [Row; 12] = [
     Row {
-        ethertype: 0x0800,
+        ethertype: IPV4,
         ip4_proto: RowNumber::Absent,
         ip6_nh: RowNumber::Absent,
     },
     Row {
-        ethertype: 0x86dd,
+        ethertype: IPV6,
         ip4_proto: RowNumber::Absent,
         ip6_nh: RowNumber::Absent,
     },
@@ -58,42 +58,42 @@ const PROTOCOLS: [Row; 12] = [
         ip6_nh: RowNumber::Absent,
     },
     Row {
-        ethertype: 0x0800,
-        ip4_proto: RowNumber::Fixed(6),
+        ethertype: IPV4,
+        ip4_proto: RowNumber::Fixed(TCP),
         ip6_nh: RowNumber::Absent,
     },
     Row {
-        ethertype: 0x0800,
-        ip4_proto: RowNumber::Fixed(17),
+        ethertype: IPV4,
+        ip4_proto: RowNumber::Fixed(UDP),
         ip6_nh: RowNumber::Absent,
     },
     Row {
-        ethertype: 0x0800,
+        ethertype: IPV4,
         ip4_proto: RowNumber::Fixed(1),
         ip6_nh: RowNumber::Absent,
     },
     Row {
-        ethertype: 0x86dd,
+        ethertype: IPV6,
         ip4_proto: RowNumber::Absent,
         ip6_nh: RowNumber::Fixed(58),
     },
     Row {
-        ethertype: 0x0800,
+        ethertype: IPV4,
         ip4_proto: RowNumber::Fixed(2),
         ip6_nh: RowNumber::Absent,
     },
     Row {
-        ethertype: 0x0800,
-        ip4_proto: RowNumber::Fixed(132),
+        ethertype: IPV4,
+        ip4_proto: RowNumber::Fixed(SCTP),
         ip6_nh: RowNumber::Absent,
     },
     Row {
-        ethertype: 0x0800,
+        ethertype: IPV4,
         ip4_proto: RowNumber::Small,
         ip6_nh: RowNumber::Absent,
     },
     Row {
-        ethertype: 0x86dd,
+        ethertype: IPV6,
         ip4_proto: RowNumber::Absent,
         ip6_nh: RowNumber::Small,
     },

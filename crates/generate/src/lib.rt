@@ -52,16 +52,6 @@ const LARGE_LINES: usize = 3946;
 const LARGE_JUMPS: usize = 3944;
 
 // What the arrays hold before anything is written.
-const NO_NOTE: Note = Note {
-    guards: GuardSet {
-        ethertype: None,
-        ip4_proto: None,
-        ip6_nh: None,
-        port_prereqs: None,
-    },
-    end: 0,
-};
-
 const NO_INSN: Insn = Insn {
     code: 0,
     jt: 0,
@@ -82,7 +72,11 @@ fn generate_in<const NOTES: usize, const LINES: usize, const JUMPS: usize>(
     requires room { P.Suffices tree.now NOTES LINES JUMPS (length part.old) }
     ensures { P.Generates (C.compile link (tree_of tree.now 0)) part.old part.new result }
 {
-    let mut notes = [NO_NOTE; NOTES];
+    let no_note = Note {
+        guards: GuardSet::none(),
+        end: 0,
+    };
+    let mut notes = [no_note; NOTES];
     let mut insns = [NO_INSN; LINES];
     let mut success = [NO_PATCH; JUMPS];
     let mut failure = [NO_PATCH; JUMPS];

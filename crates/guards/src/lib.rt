@@ -8,12 +8,7 @@ ghost use Rattle.reader.specs.Reader.{Here};
 ghost use Rattle.guards.specs.Notes as N;
 
 use ast::{Node, Primitive, Proto};
-use codegen::GuardSet;
-
-// The ethertypes of IPv4 and IPv6.
-const IPV4: u32 = 0x0800;
-
-const IPV6: u32 = 0x86dd;
+use codegen::{GuardSet, IPV4, IPV6};
 
 // What the tree at a record requires, and the record after it.
 // By record number: no memory is asked for, so that a tree is no Box.

@@ -17,23 +17,16 @@ ghost use Rattle.ports.specs.Hoist as Q;
 ghost use Rattle.ports.specs.Hoist.{Follows};
 
 use ast::{Dir, LinkType};
-use codegen::{Exit, Facts, GuardSet, L4Set, Line, Op, Side, Slot, Test, Width, ready_for};
+use codegen::{
+    Exit, Facts, GuardSet, IPV4, IPV6, L4Set, Line, Op, Side, Slot, TCP, Test, UDP, Width,
+    ready_for,
+};
 use conditions::{
     Range, Version, check_addr4, check_sides, emit_ethertype, emit_l4, ether_proto_offset,
     net_offset,
 };
 use emit::Emitter;
 use error::Refusal;
-
-// The ethertypes of IPv4 and IPv6.
-const IPV4: u32 = 0x0800;
-
-const IPV6: u32 = 0x86dd;
-
-// The numbers of the protocols TCP and UDP.
-const TCP: u32 = 6;
-
-const UDP: u32 = 17;
 
 // The bits of a fragment's place in an IPv4 header.
 const FRAGMENT: u32 = 0x1fff;
