@@ -144,7 +144,8 @@ fn check_load(e: &mut Emitter<'_>, op: Op, mask: Option<u32>, k: u32)
 }
 
 // `check_addr4`: two loads, each compared with k, by direction. With either, the source test's jt is a success.
-// The parameters are those of the source's `check_addr4`.
+// Six parameters: the source's has the value, two places and the direction; nets and ports call this one too, so that it is given the loads
+// and the mask.
 #[tactic(auto, unfolding(codegen::specs::Emit::check_loads))]
 pub fn check_addr4(e: &mut Emitter<'_>, dir: Dir, src: Op, dst: Op, mask: Option<u32>, k: u32)
     requires { Room 6 e.old }
@@ -260,6 +261,7 @@ impl Check for Mac {
 }
 
 // Two tests by direction. With either, the second is tried where the first fails.
+// Five parameters: the test, and the two places where it is made, which each caller reckons from another start.
 #[tactic(auto, unfolding(codegen::specs::Emit::check_blocks))]
 pub fn check_sides<C: Check>(e: &mut Emitter<'_>, dir: Dir, test: &C, src: u32, dst: u32)
     requires room { Room (C.most + 1 + C.most) e.old }

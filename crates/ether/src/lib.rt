@@ -51,18 +51,17 @@ fn emit_sender(e: &mut Emitter<'_>, dir: Dir, mac: &Mac) -> Result<(), Refusal>
 
 // The destination is tested first.
 #[tactic(auto, unfolding(codegen::specs::Emit::ether))]
-pub fn emit_ether_host(e: &mut Emitter<'_>, dir: Dir, four: u32, two: u32) -> Result<(), Refusal>
+pub fn emit_ether_host(e: &mut Emitter<'_>, dir: Dir, mac: &Mac) -> Result<(), Refusal>
     requires { Room 9 e.old }
-    ensures { Replies (E.ether e.old.link (E.check_blocks (E.turned dir) (L.mac_block four two 0) (L.mac_block four two 6)) (E.sender dir (L.mac_block four two 6)) e.old.facts) e.old e.new result }
+    ensures { Replies (E.ether e.old.link (E.check_blocks (E.turned dir) (L.mac_block mac.now.four mac.now.two 0) (L.mac_block mac.now.four mac.now.two 6)) (E.sender dir (L.mac_block mac.now.four mac.now.two 6)) e.old.facts) e.old e.new result }
 {
-    let mac = Mac { four, two };
     match e.link {
         LinkType::Ethernet => {
-            check_sides(e, turned(dir), &mac, DESTINATION, SOURCE);
+            check_sides(e, turned(dir), mac, DESTINATION, SOURCE);
             Ok(())
         }
         LinkType::RawIp => Err(Refusal::EtherOnRaw),
-        LinkType::LinuxSll => emit_sender(e, dir, &mac),
+        LinkType::LinuxSll => emit_sender(e, dir, mac),
     }
 }
 

@@ -17,7 +17,7 @@ use guards::Note;
 // as many pending jumps. The arrays are cleared at each call, so a short file gets short ones; they are of a fixed size, since no memory is
 // asked for.
 
-// Two records: no join, so that there are no notes.
+// These are for a file of at most two records: it has no join, so that there are no notes.
 const TINY_FILE: usize = 56;
 
 const TINY_NOTES: usize = 0;
@@ -26,7 +26,7 @@ const TINY_LINES: usize = 40;
 
 const TINY_JUMPS: usize = 38;
 
-// Eight.
+// These are for at most eight records.
 const SMALL_FILE: usize = 200;
 
 const SMALL_NOTES: usize = 8;
@@ -35,7 +35,7 @@ const SMALL_LINES: usize = 226;
 
 const SMALL_JUMPS: usize = 224;
 
-// 32.
+// These are for at most 32 records.
 const MIDDLE_FILE: usize = 776;
 
 const MIDDLE_NOTES: usize = 32;
@@ -44,7 +44,7 @@ const MIDDLE_LINES: usize = 970;
 
 const MIDDLE_JUMPS: usize = 968;
 
-// 128.
+// These are for at most 128 records, the most that a file has.
 const LARGE_NOTES: usize = 128;
 
 const LARGE_LINES: usize = 3946;
@@ -72,6 +72,7 @@ fn generate_in<const NOTES: usize, const LINES: usize, const JUMPS: usize>(
     requires room { P.Suffices tree.now NOTES LINES JUMPS (length part.old) }
     ensures { P.Generates (C.compile link (tree_of tree.now 0)) part.old part.new result }
 {
+    // Notes, lines and jumps are arrays of fixed sizes, since no memory is asked for.
     let no_note = Note {
         guards: GuardSet::none(),
         end: 0,

@@ -214,13 +214,13 @@ pub fn emit_port(e: &mut Emitter<'_>, dir: Dir, want: L4Set, port: u32)
 // A range of ports, by direction.
 // Apart from `emit_port`: with either, the two tests of a port are loads whose first succeeds, and those of a range are blocks.
 #[tactic(auto, using(crate::proofs::Hoisting::prereqs_size))]
-pub fn emit_portrange(e: &mut Emitter<'_>, dir: Dir, want: L4Set, lo: u32, hi: u32)
+pub fn emit_portrange(e: &mut Emitter<'_>, dir: Dir, want: L4Set, range: &Range)
     requires { Room 21 e.old }
-    ensures { Grew (Q.ported_by e.old.link want (E.check_blocks dir (E.check_range lo hi (E.net_offset e.old.link)) (E.check_range lo hi (E.net_offset e.old.link + 2))) e.old.facts) e.old e.new }
+    ensures { Grew (Q.ported_by e.old.link want (E.check_blocks dir (E.check_range range.now.low range.now.high (E.net_offset e.old.link)) (E.check_range range.now.low range.now.high (E.net_offset e.old.link + 2))) e.old.facts) e.old e.new }
 {
     emit_port_prereqs_set(e, want);
     let n = net_offset(e.link);
-    check_sides(e, dir, &Range { low: lo, high: hi }, n, n + 2);
+    check_sides(e, dir, range, n, n + 2);
 }
 
 // ---- hoisting

@@ -9,8 +9,8 @@ ghost use Rattle.emit.specs.Grown.{Room, Space, Replies};
 use ast::{Primitive, Proto};
 use bpf::{be_u16, be_u32};
 use conditions::{
-    Version, emit_ethertype, emit_ip_broadcast, emit_ip_multicast, emit_ip6_multicast, emit_l4,
-    emit_net, emit_net6,
+    Mac, Range, Version, emit_ethertype, emit_ip_broadcast, emit_ip_multicast, emit_ip6_multicast,
+    emit_l4, emit_net, emit_net6,
 };
 use emit::Emitter;
 use error::Refusal;
@@ -55,13 +55,19 @@ pub fn emit_primitive(e: &mut Emitter<'_>, p: Primitive) -> Result<(), Refusal>
         }
         Primitive::PortRange(dir, protocol, low, high) => {
             let want = l4set_for(protocol)?;
-            emit_portrange(e, dir, want, u32::from(low), u32::from(high));
+            let range = Range {
+                low: u32::from(low),
+                high: u32::from(high),
+            };
+            emit_portrange(e, dir, want, &range);
             Ok(())
         }
         Primitive::EtherHost(dir, address) => {
-            let four = be_u32(&address, 0);
-            let two = be_u16(&address, 4);
-            emit_ether_host(e, dir, four, u32::from(two))
+            let mac = Mac {
+                four: be_u32(&address, 0),
+                two: u32::from(be_u16(&address, 4)),
+            };
+            emit_ether_host(e, dir, &mac)
         }
         Primitive::EtherProto(ethertype) => emit_ethertype(e, u32::from(ethertype)),
         Primitive::EtherMulticast => emit_ether_multicast(e),
