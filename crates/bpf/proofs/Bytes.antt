@@ -21,6 +21,14 @@ be_prefix zero at f e h = refl
 be_prefix (suc n) at f e h =
     ap₂ (λ x y. x * 256 + y) (be_prefix n at f e (omega (arith, add-suc at n))) (get_or-append f e 0 (at + n) (omega (arith, add-suc at n)))
 
+-- a number that lies behind a place
+pub be_drop : (n i at : ℕ) (s : List ℕ) → be n i (drop at s) ≡ be n (at + i) s
+unfolding be
+be_drop zero i at s = refl
+be_drop (suc n) i at s =
+    let e : at + (i + n) ≡ at + i + n = omega arith in
+    ap₂ (λ x y. x * 256 + y) (be_drop n i at s) (rw (get_or-drop at s (i + n) 0, e))
+
 pub length_le : (n v : ℕ) → length (le n v) ≡ n
 unfolding le
 length_le zero v = refl

@@ -5,18 +5,11 @@ use mathlib.Core.List.{List, ◌++◌}
 use native.Mathlib.Omega.{arith}
 use lib.ListN.{length, drop, get_or-append}
 use lib.Seq.{get_or-drop}
-use Rattle.bpf.specs.Bytes.{be, le_at}
-use Rattle.bpf.proofs.Bytes.{be_prefix}
+use Rattle.bpf.specs.Bytes.{le_at}
+use Rattle.bpf.proofs.Bytes.{be_prefix, be_drop}
 use Rattle.capture.specs.declared.Order.{Order}
 use Rattle.capture.specs.declared.Order.TheVariants.{Big, Little}
 use Rattle.capture.specs.Capture.{number_at}
-
-be_drop : (n i at : ℕ) (s : List ℕ) → be n i (drop at s) ≡ be n (at + i) s
-unfolding be
-be_drop zero i at s = refl
-be_drop (suc n) i at s =
-    let e : at + (i + n) ≡ at + i + n = omega arith in
-    ap₂ (λ x y. x * 256 + y) (be_drop n i at s) (rw (get_or-drop at s (i + n) 0, e))
 
 le_drop : (n i at : ℕ) (s : List ℕ) → le_at n i (drop at s) ≡ le_at n (at + i) s
 unfolding le_at

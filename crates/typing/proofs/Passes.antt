@@ -7,11 +7,12 @@ use mathlib.Core.List.{List, [], ◌∷◌, ◌++◌, append_assoc, append-nil}
 use mathlib.Core.Bool.{false, not, ◌&&◌, ◌||◌}
 use native.Mathlib.Omega.{arith}
 use native.Mathlib.Nat.{zero-add, add-zero, div-add-mod'}
-use lib.ListN.{length, length-append, get_or, drop}
-use lib.Seq.{get_or-drop, drop-drop, drop_at}
+use lib.ListN.{length, length-append, drop}
+use lib.Seq.{drop-drop, drop_at}
 use borrow.Author.Tests.{le-ltb, ne_eqb, eq-eqb}
 use Rattle.error.specs.Answer.{Out}
 use Rattle.bpf.specs.Bytes.{be, bytes_at, long_frame}
+use Rattle.bpf.proofs.Bytes.{be_drop}
 use Rattle.ast.specs.declared.LinkType.{LinkType}
 use Rattle.ast.specs.declared.Primitive.TheVariants.{Host4, Port}
 use Rattle.ast.specs.declared.Dir.{Dir}
@@ -32,33 +33,26 @@ use Rattle.typing.specs.Phrase.{record_bytes, term_record, operand_bytes, phrase
 
 -- ---- numbers and records behind a place
 
-be_drop : (n at k : ℕ) (s : List ℕ) → be n (at + k) s ≡ be n k (drop at s)
-unfolding be
-be_drop zero at k s = refl
-be_drop (suc n) at k s =
-    ap₂ (λ x y. x * 256 + y) (be_drop n at k s) (ap (λ (i : ℕ). get_or s i 0) (omega arith) ∙ sym (get_or-drop at s (k + n) 0))
-
-bytes_drop : (n at k : ℕ) (s : List ℕ) → bytes_at n (at + k) s ≡ bytes_at n k (drop at s)
+bytes_drop : (n k at : ℕ) (s : List ℕ) → bytes_at n k (drop at s) ≡ bytes_at n (at + k) s
 unfolding bytes_at
-bytes_drop zero at k s = refl
-bytes_drop (suc n) at k s =
-    ap₂ ◌∷◌ (be_drop 1 at k s) (ap (λ (i : ℕ). bytes_at n i s) (omega arith) ∙ bytes_drop n at (k + 1) s)
+bytes_drop zero k at s = refl
+bytes_drop (suc n) k at s = ap₂ ◌∷◌ (be_drop 1 k at s) (bytes_drop n (k + 1) at s ∙ ap (λ (i : ℕ). bytes_at n i s) (omega arith))
 
-record_drop : (at : ℕ) (s : List ℕ) → record_at at s ≡ record_at 0 (drop at s)
+record_drop : (at : ℕ) (s : List ℕ) → record_at 0 (drop at s) ≡ record_at at s
 unfolding record_at
 record_drop at s =
     λ i. record {
-      kind = (ap (λ (j : ℕ). be 1 j s) (sym (add-zero at)) ∙ be_drop 1 at 0 s) i;
-      direction = be_drop 1 at 1 s i;
-      protocol = be_drop 1 at 2 s i;
-      small = be_drop 1 at 3 s i;
-      a = be_drop 2 at 4 s i;
-      b = be_drop 2 at 6 s i;
-      address = bytes_drop 16 at 8 s i;
+      kind = (be_drop 1 0 at s ∙ ap (λ (j : ℕ). be 1 j s) (add-zero at)) i;
+      direction = be_drop 1 1 at s i;
+      protocol = be_drop 1 2 at s i;
+      small = be_drop 1 3 at s i;
+      a = be_drop 2 4 at s i;
+      b = be_drop 2 6 at s i;
+      address = bytes_drop 16 8 at s i;
     }
 
 node_drop : (at : ℕ) (s r : List ℕ) (x : Node) → drop at s ≡ r → node_at 0 r ≡ Ok x → node_at at s ≡ Ok x
-node_drop at s r x e h = ap (node_by kinds) (record_drop at s ∙ ap (record_at 0) e) ∙ h
+node_drop at s r x e h = ap (node_by kinds) (sym (record_drop at s) ∙ ap (record_at 0) e) ∙ h
 
 -- ---- the node of each record
 
