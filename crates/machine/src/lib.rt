@@ -168,13 +168,6 @@ fn header_length(frame: &[u8], at: u32) -> Result<u32, Verdict>
     Ok(4 * (byte % 16))
 }
 
-// The program's own multiplication: it wraps.
-fn wrapping_mul(a: u32, b: u32) -> u32
-    ensures { result ≡ M.wrap (a * b) }
-{
-    ((u64::from(a) * u64::from(b)) % 4294967296) as u32
-}
-
 // "X operand is bit 0x08".
 fn operand(code: u16, k: u32, x: u32) -> u32
     ensures { result ≡ (if nat_eq (code / 8 % 2) 0 then k else x) }
@@ -190,7 +183,7 @@ fn alu(op: u16, a: u32, v: u32) -> Result<u32, Verdict>
     match op {
         ADD => Ok(a.wrapping_add(v)),
         SUB => Ok(a.wrapping_sub(v)),
-        MUL => Ok(wrapping_mul(a, v)),
+        MUL => Ok(a.wrapping_mul(v)),
         DIV if v == 0 => Err(Verdict::Broken),
         DIV => Ok(a / v),
         OR => Ok(a | v),
