@@ -21,6 +21,7 @@ pub fn write_program(program: &mut [u8], insns: &[Insn])
     requires { 8 * length insns.now ≤ length program.old }
     ensures { program.new ≡ program_bytes insns.now ++ drop (8 * length insns.now) program.old }
 {
+    // By index: what is written through `chunks_exact_mut` is known by its length alone.
     for (i, insn) in insns.iter().enumerate() {
         let at = 8 * i;
         program[at..at + 8].copy_from_slice(&bytes_of(*insn));

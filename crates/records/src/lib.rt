@@ -64,6 +64,7 @@ impl Order {
         let mut left = items;
         // From the right by a pattern: a proof about a reversed iterator has to speak of the reversed list.
         while let [before @ .., item] = left {
+            // Widened by `as`, as in `pop`.
             self.pop(item.depth as usize + 1);
             self.place(*item);
             left = before;
@@ -143,6 +144,7 @@ fn write_items(tree: &mut [u8], items: &[Item])
     requires { (length items.now ≤ 128) × (8 + 24 * length items.now ≤ length tree.old) }
     ensures { tree.new ≡ take 8 tree.old ++ O.file_bytes items.now ++ drop (8 + 24 * length items.now) tree.old }
 {
+    // By index: what is written through `chunks_exact_mut` is known by its length alone.
     for (i, item) in items.iter().enumerate() {
         put(tree, 8 + 24 * i, &record_of(item.entry));
     }
