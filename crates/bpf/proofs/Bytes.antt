@@ -1,11 +1,11 @@
 -- Laws of numbers in bytes, at any width.
 use Prim.Native.Nat.{ℕ, zero, suc, ◌+◌, ◌*◌, ◌/◌, ◌%◌, ◌^◌, ◌≤◌, ◌<◌}
-use mathlib.Core.Path.{◌≡◌, refl, sym, ap, ap₂, ◌∙◌}
+use mathlib.Core.Path.{◌≡◌, refl, ap, ap₂}
 use mathlib.Core.List.{List, [], ◌∷◌, ◌++◌, append_assoc}
 use native.Mathlib.Omega.{arith}
 use native.Mathlib.Nat.{add-zero, zero-add, add-suc, div-add-mod', pow-suc}
-use lib.ListN.{length, length-append, get_or-append, get_or, take, drop}
-use lib.Seq.{get_or-append_seam, get_or-drop, get_or-take}
+use lib.ListN.{length, length-append, get_or-append, get_or}
+use lib.Seq.{get_or-append_seam}
 use Rattle.bpf.specs.Bytes.{be, AreBytes, le, le_at}
 
 -- n bytes are a number below 256 ^ n
@@ -62,7 +62,3 @@ be_half at s = rw (zero-add, add-zero)
 pub be_word : (at : ℕ) (s : List ℕ) → be 4 at s ≡ ((get_or s at 0 * 256 + get_or s (at + 1) 0) * 256 + get_or s (at + 2) 0) * 256 + get_or s (at + 3) 0
 unfolding be
 be_word at s = rw (zero-add, add-zero)
-
--- the i-th of the n bytes from a place on
-pub part_get : (s : List ℕ) (n at i k : ℕ) → i < n → k ≡ at + i → get_or (take n (drop at s)) i 0 ≡ get_or s k 0
-part_get s n at i k h e = get_or-take n (drop at s) i 0 h ∙ get_or-drop at s i 0 ∙ ap (λ p. get_or s p 0) (sym e)
