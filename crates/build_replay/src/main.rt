@@ -12,6 +12,7 @@
 
 ghost use Rattle.std.specs.Prelude.{◌<◌};
 
+use error::Refusal;
 use std::alloc::Global;
 use std::fmt::{Display, Formatter};
 use std::io::{BufReader, BufWriter, Read, Write};
@@ -30,23 +31,19 @@ const GROUPS: [&str; 7] = [
 // What a buffer holds before it is lent, and what has to stay behind the lent part.
 const FILLED: u8 = 0x5a;
 
-// The most that is lent.
+// The most that is lent, and how many bytes stand behind it.
 const MOST: usize = 32768;
+
+const BEHIND: usize = 16;
 
 // The refusals of a build are below this.
 const REFUSALS: usize = 16;
-
-// "fewer than 8 × instructions bytes lent"
-const SHORT_BUFFER: u32 = 9;
 
 // ---- answers
 
 // A build's answer as C has it: the count, or the refusal's number times 65,536.
 #[derive(Clone, Copy, Debug, PartialEq, Eq)]
 struct Answer(u32);
-
-// No build answers what is answered where the bytes are too few to be lent.
-const TOO_FEW: Answer = Answer(u32::MAX);
 
 impl Answer {
     fn of_refusal(number: u32) -> Answer
@@ -55,17 +52,20 @@ impl Answer {
         Answer(number * 65536)
     }
 
-    // The refusal's number, or 0.
-    fn refusal(self) -> u32 {
-        self.0 / 65536
+    // The refusal's number; a count has none.
+    fn refusal(self) -> Option<usize> {
+        match self.0 / 65536 {
+            0 => None,
+            number => Some(number as usize),
+        }
     }
 }
 
 impl Display for Answer {
     fn fmt<W: fmt::Write>(&self, f: &mut Formatter<W>) -> fmt::Result {
         match self.refusal() {
-            0 => write!(f, "count {}", self.0),
-            number => write!(f, "refused {number}"),
+            None => write!(f, "count {}", self.0),
+            Some(number) => write!(f, "refused {number}"),
         }
     }
 }
@@ -106,11 +106,11 @@ struct Tally {
 
 impl Tally {
     fn add(&mut self, answer: Answer) {
-        let number = answer.refusal() as usize;
-        if number == 0 || number >= REFUSALS {
-            self.counts = self.counts.saturating_add(1);
-        } else {
-            self.refused[number] = self.refused[number].saturating_add(1);
+        match answer.refusal() {
+            Some(number) if number < REFUSALS => {
+                self.refused[number] = self.refused[number].saturating_add(1);
+            }
+            _ => self.counts = self.counts.saturating_add(1),
         }
     }
 
@@ -142,47 +142,39 @@ impl Display for Tally {
 
 // ---- a build
 
-// The byte that a place has to hold: the program's, zero up to the lent part's end, then what was there.
-fn wanted(program: &[u8], lent: usize, i: usize) -> u8 {
-    match program.get(i) {
-        Some(byte) => *byte,
-        None if i < lent => 0,
-        None => FILLED,
-    }
+// What a buffer has to hold: the program, zeros up to the lent part's end, then what was there.
+fn left_by(alloc: Global, program: &[u8], lent: usize, size: usize) -> io::Result<Vec<u8>> {
+    let mut bytes = Vec::from_slice(alloc, program)?;
+    bytes.resize(lent, 0)?;
+    bytes.resize(size, FILLED)?;
+    Ok(bytes)
 }
 
 // The first place with another byte, or the buffer's end.
-fn first_wrong(buffer: &[u8], program: &[u8], lent: usize) -> usize {
+fn first_wrong(buffer: &[u8], wanted: &[u8]) -> usize {
     buffer
         .iter()
-        .enumerate()
-        .position(|(i, byte)| *byte != wanted(program, lent, i))
+        .zip(wanted)
+        .position(|(byte, wanted)| *byte != *wanted)
         .unwrap_or(buffer.len())
-}
-
-// The answer of a build into the first bytes of a buffer.
-fn build_into(file: &[u8], buffer: &mut [u8], lent: usize) -> Answer {
-    match buffer.get_mut(..lent) {
-        Some(part) => Answer(pft::pft_build(file, part)),
-        None => TOO_FEW,
-    }
 }
 
 // ---- a case
 
-// The stored answer, and the tree file's length.
+// The stored count or the refusal's number, and the tree file's length.
 #[derive(Clone, Copy)]
 struct Head {
-    refusal: u8,
-    count: u16,
+    answer: Result<u16, u8>,
     file: u16,
 }
 
 impl From<[u8; 5]> for Head {
     fn from(h: [u8; 5]) -> Head {
         Head {
-            refusal: h[0],
-            count: u16::from_be_bytes([h[1], h[2]]),
+            answer: match h[0] {
+                0 => Ok(u16::from_be_bytes([h[1], h[2]])),
+                refusal => Err(refusal),
+            },
             file: u16::from_be_bytes([h[3], h[4]]),
         }
     }
@@ -200,17 +192,17 @@ struct Case {
 impl Head {
     // How many bytes the program has.
     fn size(self) -> usize {
-        8 * usize::from(self.count)
+        8 * usize::from(self.answer.unwrap_or(0))
     }
 }
 
 impl Case {
     // As many bytes as a program needs; a file that is refused has 0 to 599 for that.
     fn exact(&self) -> usize {
-        if self.head.refusal != 0 {
-            return self.index % 600;
+        match self.head.answer {
+            Ok(_) => self.head.size(),
+            Err(_) => self.index % 600,
         }
-        self.head.size()
     }
 
     // How many bytes are lent: exactly enough, more, one too few, none, all.
@@ -222,35 +214,42 @@ impl Case {
 
     // What a build into so many bytes has to answer.
     fn answer(&self, lent: usize) -> Answer {
-        let Head { refusal, count, .. } = self.head;
-        if refusal != 0 {
-            return Answer::of_refusal(u32::from(refusal));
+        match self.head.answer {
+            Err(refusal) => Answer::of_refusal(u32::from(refusal)),
+            Ok(_) if lent < self.head.size() => {
+                Answer::of_refusal(u32::from(Refusal::ShortBuffer))
+            }
+            Ok(count) => Answer(u32::from(count)),
         }
-        if lent < self.head.size() {
-            return Answer::of_refusal(SHORT_BUFFER);
+    }
+
+    // The program that such an answer has, if it is a count.
+    fn program_of(&self, answer: Answer) -> &[u8] {
+        match answer.refusal() {
+            None => &self.program,
+            Some(_) => &[],
         }
-        Answer(u32::from(count))
     }
 
     // How the build into so many bytes differs from what it has to be.
-    fn difference(&self, lent: usize) -> Option<Difference> {
-        let mut buffer = [FILLED; 32784];
-        let here = build_into(&self.file, &mut buffer, lent);
+    fn difference(&self, alloc: Global, lent: usize) -> io::Result<Option<Difference>> {
+        let size = lent.max(MOST).saturating_add(BEHIND);
+        let mut buffer = vec![in alloc; FILLED; size]?;
+        let here = Answer(pft::pft_build(&self.file, &mut buffer[..lent]));
         let wanted = self.answer(lent);
-        let program = match wanted.refusal() {
-            0 => self.program.as_slice(),
-            _ => &[],
-        };
-        let wrong = first_wrong(&buffer, program, lent);
+        let wrong = first_wrong(
+            &buffer,
+            &left_by(alloc, self.program_of(wanted), lent, size)?,
+        );
         if here == wanted && wrong == buffer.len() {
-            return None;
+            return Ok(None);
         }
-        Some(Difference {
+        Ok(Some(Difference {
             lent,
             here,
             wanted,
             wrong,
-        })
+        }))
     }
 }
 
@@ -291,7 +290,7 @@ impl<R: Read, W: Write> Replay<R, W> {
         let mut is_good = true;
         for lent in case.lengths() {
             self.tally.add(case.answer(lent));
-            if let Some(difference) = case.difference(lent) {
+            if let Some(difference) = case.difference(self.alloc, lent)? {
                 is_good = false;
                 self.tally.differs();
                 write!(self.out, "{difference}\n")?;

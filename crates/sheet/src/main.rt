@@ -123,10 +123,19 @@ enum Verdict {
 }
 
 #[derive(Clone, Copy)]
+enum Refusal {
+    KindOnRaw = 5,
+    PortProtocol = 6,
+    EtherOnRaw = 7,
+    FarJump = 8,
+}
+
+// The numbers of an instruction, as wide as those that they are compared with.
+#[derive(Clone, Copy)]
 struct Insn {
-    code: u16,
-    jt: u8,
-    jf: u8,
+    code: u32,
+    jt: u32,
+    jf: u32,
     k: u32,
 }
 
@@ -142,9 +151,9 @@ impl Built {
     fn insn(&self, i: usize) -> Insn {
         match self.program.chunks_exact(8).nth(i) {
             Some(&[c0, c1, jt, jf, k0, k1, k2, k3]) => Insn {
-                code: u16::from_le_bytes([c0, c1]),
-                jt,
-                jf,
+                code: u32::from(u16::from_le_bytes([c0, c1])),
+                jt: u32::from(jt),
+                jf: u32::from(jf),
                 k: u32::from_le_bytes([k0, k1, k2, k3]),
             },
             _ => Insn {
@@ -221,17 +230,8 @@ impl<W: Write> Sheet<W> {
     // And of an instruction: its code and k, jt, jf.
     fn insn_is(&mut self, built: &Built, i: usize, code: u32, k: u32) -> io::Result<()> {
         let insn = built.insn(i);
-        self.same("a code", u32::from(insn.code), code)?;
+        self.same("a code", insn.code, code)?;
         self.same("a k", insn.k, k)
-    }
-
-    // Apart from `jf_is`: a field cannot be a parameter.
-    fn jt_is(&mut self, built: &Built, i: usize, wanted: u32) -> io::Result<()> {
-        self.same("a jt", u32::from(built.insn(i).jt), wanted)
-    }
-
-    fn jf_is(&mut self, built: &Built, i: usize, wanted: u32) -> io::Result<()> {
-        self.same("a jf", u32::from(built.insn(i).jf), wanted)
     }
 
     // A line whose tree is refused.
@@ -240,12 +240,12 @@ impl<W: Write> Sheet<W> {
         sentence: &str,
         link: Link,
         records: &[Record],
-        refusal: u32,
+        refusal: Refusal,
     ) -> io::Result<()>
         requires { length records.now ≤ 128 }
     {
         let built = self.line(sentence, link, records)?;
-        self.same("the refusal", built.answer / 65536, refusal)?;
+        self.same("the refusal", built.answer / 65536, refusal as u32)?;
         self.end()
     }
 
@@ -261,7 +261,7 @@ impl<W: Write> Sheet<W> {
         let sentence = "Ethernet, Ip: jf 1 at index 1, four instructions";
         let built = self.line(sentence, Link::Ethernet, &ip)?;
         self.count_is(&built, 4)?;
-        self.jf_is(&built, 1, 1)?;
+        self.same("a jf", built.insn(1).jf, 1)?;
         self.end()
     }
 
@@ -296,9 +296,9 @@ impl<W: Write> Sheet<W> {
         ];
         let built = self.line(sentence, Link::Ethernet, &records)?;
         self.count_is(&built, 9)?;
-        self.jf_is(&built, 1, 6)?;
-        self.jf_is(&built, 3, 1)?;
-        self.jf_is(&built, 6, 1)?;
+        self.same("a jf", built.insn(1).jf, 6)?;
+        self.same("a jf", built.insn(3).jf, 1)?;
+        self.same("a jf", built.insn(6).jf, 1)?;
         self.insn_is(&built, 4, 5, 2)?;
         self.end()
     }
@@ -312,10 +312,10 @@ impl<W: Write> Sheet<W> {
         ];
         let built = self.line(sentence, Link::Ethernet, &records)?;
         self.count_is(&built, 11)?;
-        self.jf_is(&built, 1, 8)?;
-        self.jf_is(&built, 3, 6)?;
-        self.jf_is(&built, 8, 1)?;
-        self.jt_is(&built, 5, 4)?;
+        self.same("a jf", built.insn(1).jf, 8)?;
+        self.same("a jf", built.insn(3).jf, 6)?;
+        self.same("a jf", built.insn(8).jf, 1)?;
+        self.same("a jt", built.insn(5).jt, 4)?;
         self.end()
     }
 
@@ -324,7 +324,7 @@ impl<W: Write> Sheet<W> {
         let sentence = "Port 53, none, either: twenty; jt 8 at 1";
         let built = self.line(sentence, Link::Ethernet, &records)?;
         self.count_is(&built, 20)?;
-        self.jt_is(&built, 1, 8)?;
+        self.same("a jt", built.insn(1).jt, 8)?;
         self.end()
     }
 
@@ -346,11 +346,21 @@ impl<W: Write> Sheet<W> {
             of_protocol(Protocol::Icmp6),
         ];
         let multicast = [plain(Kind::EtherMulticast)];
-        self.refused("RawIp, Ip6: 5", Link::RawIp, &ip6, 5)?;
-        self.refused("Port with Icmp: 6", Link::Ethernet, &[icmp_port], 6)?;
+        self.refused("RawIp, Ip6: 5", Link::RawIp, &ip6, Refusal::KindOnRaw)?;
+        self.refused(
+            "Port with Icmp: 6",
+            Link::Ethernet,
+            &[icmp_port],
+            Refusal::PortProtocol,
+        )?;
         let sentence = "RawIp, (port with Icmp and Icmp6) or Icmp6: 5, not 6";
-        self.refused(sentence, Link::RawIp, &clash, 5)?;
-        self.refused("RawIp, ether multicast: 7", Link::RawIp, &multicast, 7)
+        self.refused(sentence, Link::RawIp, &clash, Refusal::KindOnRaw)?;
+        self.refused(
+            "RawIp, ether multicast: 7",
+            Link::RawIp,
+            &multicast,
+            Refusal::EtherOnRaw,
+        )
     }
 
     // At distance 255 the first test jumps to the last return: 258 instructions.
@@ -359,10 +369,15 @@ impl<W: Write> Sheet<W> {
             "Seven ether multicasts, an IPv6 source host, seven IPv6 hosts in both, joined by and from the left: distance 255, accepted";
         let built = self.line(sentence, Link::Ethernet, &far(Direction::Both))?;
         self.count_is(&built, 258)?;
-        self.jf_is(&built, 1, 255)?;
+        self.same("a jf", built.insn(1).jf, 255)?;
         self.end()?;
         let sentence = "The last host with either: 256, number 8";
-        self.refused(sentence, Link::Ethernet, &far(Direction::Either), 8)
+        self.refused(
+            sentence,
+            Link::Ethernet,
+            &far(Direction::Either),
+            Refusal::FarJump,
+        )
     }
 
     fn all(&mut self) -> io::Result<()> {

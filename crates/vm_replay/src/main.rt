@@ -24,8 +24,8 @@ use vm::{Outcome, Verdict};
 
 const GROUPS: [&str; 4] = ["hand-made", "every code", "random", "refusals"];
 
-// What a run says, in the numbers of a case. No run and no stored case says all zeros, which stand for a case that cannot be read.
-#[derive(Clone, Copy, Debug, Default, PartialEq, Eq)]
+// What a run says, in the numbers of a case, so that all that is stored is compared.
+#[derive(Clone, Copy, Debug, PartialEq, Eq)]
 struct Said {
     refusal: u32,
     answer: u8,
@@ -166,25 +166,23 @@ impl<R: Read, W: Write> Replay<R, W> {
         Ok(bytes)
     }
 
-    fn run(&mut self, case: Case) -> io::Result<Said> {
+    // What is stored of the next case, and what its run says.
+    fn next(&mut self) -> io::Result<(Said, Said)> {
+        let mut head = [0u8; 12];
+        self.input.read_exact(&mut head)?;
+        let case = Case::from(head);
         let program = self.bytes(case.program)?;
         let frame = self.bytes(case.frame)?;
-        Ok(Said::from(machine::run(&program, &frame)))
+        Ok((case.said, Said::from(machine::run(&program, &frame))))
     }
 
-    // Runs the next case, and answers whether the run says what is stored.
+    // Answers whether the next case's run says what is stored. What cannot be read is a difference.
     fn case(&mut self, group: &str, index: u64) -> io::Result<bool> {
-        let mut head = [0u8; 12];
-        if self.input.read_exact(&mut head).is_err() {
-            return Ok(false);
+        match self.next() {
+            Ok((stored, here)) if stored == here => return Ok(true),
+            Ok((stored, here)) => write!(self.out, "{group} {index}: {here}, stored {stored}\n")?,
+            Err(_) => write!(self.out, "{group} {index}: the case cannot be read\n")?,
         }
-        let case = Case::from(head);
-        let stored = case.said;
-        let here = self.run(case).unwrap_or_default();
-        if here == stored {
-            return Ok(true);
-        }
-        write!(self.out, "{group} {index}: {here}, stored {stored}\n")?;
         Ok(false)
     }
 
