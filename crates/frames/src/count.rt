@@ -62,7 +62,7 @@ impl<R: Files + Input + AllocGlobal, A: Print, M: Print> Session<'_, R, A, M> {
         Ok(Ended::Refused)
     }
 
-    // The count of a capture, and its start, where one that is refused with 12 or 13 ends.
+    // Counts the frames of a capture. One that is refused with 12 leaves its start in the buffer.
     fn count_of(
         &self,
         path: &[u8],

@@ -7,44 +7,44 @@ use crate::over::names_input_twice;
 use crate::said::{Name, Refused};
 use crate::tree::{Behind, Given};
 use crate::{Ended, Session, Work};
+use ast::LinkType;
 use error::Refusal;
 use std::io;
 use std::io::{Error, Input, Print};
 use std::rt::Files;
+use typing::Fault;
 
-// A link's byte in a tree file, by number or name.
-fn link_of(word: &[u8]) -> Option<u8>
+// The typing takes an array of as many bytes as the largest tree file has.
+const TYPED_BYTES: usize = 3080;
+
+// A link by its number in a tree file or its name.
+fn link_of(word: &[u8]) -> Option<LinkType>
     ensures { IsSome result ↔ Contains links word.now }
 {
     match word {
-        b"1" | b"ethernet" => Some(1),
-        b"2" | b"raw" => Some(2),
-        b"3" | b"cooked" => Some(3),
+        b"1" | b"ethernet" => Some(LinkType::Ethernet),
+        b"2" | b"raw" => Some(LinkType::RawIp),
+        b"3" | b"cooked" => Some(LinkType::LinuxSll),
         _ => None,
     }
 }
 
-// A line that is refused, at a place.
+// A line that is refused, and why.
 #[derive(Clone, Copy)]
-struct Fault<'a> {
-    link: u8,
+struct Rejected<'a> {
+    link: LinkType,
     line: &'a [u8],
-    refusal: Refusal,
-    place: usize,
+    fault: Fault,
 }
 
 impl<R: Files + Input + AllocGlobal, A: Print, M: Print> Session<'_, R, A, M> {
     // ---- a line that is refused
 
     // Below the line a mark under the place, the refusal, and what could stand there.
-    fn put_fault(&self, fault: Fault) -> io::Result<()> {
+    fn put_rejected(&self, rejected: Rejected) -> io::Result<()> {
         let to = &self.messages;
-        let Fault {
-            link,
-            line,
-            refusal,
-            place,
-        } = fault;
+        let Rejected { link, line, fault } = rejected;
+        let Fault { refusal, place } = fault;
         let shown = hints::show(line, place);
         let refused = Refused(refusal);
         if refusal == Refusal::TooLarge {
@@ -62,32 +62,30 @@ impl<R: Files + Input + AllocGlobal, A: Print, M: Print> Session<'_, R, A, M> {
         print!(to; "\n")
     }
 
-    fn turned_down(&self, fault: Fault) -> Ended
+    fn turned_down(&self, rejected: Rejected) -> Ended
         ensures { result ≡ Ended.Refused }
     {
-        let _ = self.put_fault(fault);
+        let _ = self.put_rejected(rejected);
         Ended::Refused
     }
 
     // ---- a line
 
     // A tree of a line goes by what is shown of the line.
-    fn typed_line<'a>(&self, link: u8, line: &'a [u8], files: &'a [Argument]) -> Work<Given<'a>>
+    fn typed_line<'a>(
+        &self,
+        link: LinkType,
+        line: &'a [u8],
+        files: &'a [Argument],
+    ) -> Work<Given<'a>>
         ensures { result ≢ Err Ended.Usage }
     {
-        // Lent bytes, as the typing takes them.
         let name = Name::Line(hints::show(line, 0));
-        let mut room = [0u8; 3080];
-        let length = match type_line::type_line(link, line, &mut room) {
-            Ok(n) => n,
-            Err(typing::Fault { refusal, place }) => {
-                return Err(self.turned_down(Fault {
-                    link,
-                    line,
-                    refusal,
-                    place,
-                }));
-            }
+        // Lent bytes, as the typing takes them.
+        let mut room = [0u8; TYPED_BYTES];
+        let length = match type_line::type_line(link as u8, line, &mut room) {
+            Ok(length) => length,
+            Err(fault) => return Err(self.turned_down(Rejected { link, line, fault })),
         };
         match Vec::from_slice(self.rt.alloc(), &room) {
             Ok(mut tree) => {

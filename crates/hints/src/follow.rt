@@ -1,8 +1,13 @@
 // What could stand at a place of a typed line. The typing itself is asked, so that there is no second grammar: each candidate is typed
 // behind the bytes before the place, and cannot follow where it is refused as unfinished at its own place.
+use ast::LinkType;
 use error::Refusal;
 use std::alloc::Global;
 use std::io::{Print, Result};
+use typing::Fault;
+
+// The typing takes an array of as many bytes as the largest tree file has.
+const TYPED_BYTES: usize = 3080;
 
 // The words in the order in which they are told.
 const WORDS: [&str; 17] = [
@@ -15,35 +20,33 @@ const PHRASES: [(&str, &str); 2] = [("0.0.0.0", "an address"), ("0", "a port num
 
 // ---- the typing is asked
 
+// Why a line is no tree file. Its bytes are lent, as the typing takes them, and not kept.
+fn fault_of(link: LinkType, line: &[u8]) -> Option<Fault> {
+    let mut tree = [0u8; TYPED_BYTES];
+    type_line::type_line(link as u8, line, &mut tree).err()
+}
+
 // Whether a line takes its last word, which stands at a place: it is not unfinished there.
-// Lent bytes, as the typing takes them.
-fn takes(link: u8, line: &[u8], place: usize) -> bool {
-    let mut tree = [0u8; 3080];
-    match type_line::type_line(link, line, &mut tree) {
-        Ok(_) => true,
-        Err(fault) => fault.refusal != Refusal::Unfinished || fault.place != place,
-    }
+fn takes(link: LinkType, line: &[u8], place: usize) -> bool {
+    fault_of(link, line).is_none_or(|fault| fault.refusal != Refusal::Unfinished
+        || fault.place != place)
 }
 
 // Whether a line may end as it stands.
-fn may_end(link: u8, line: &[u8]) -> bool {
-    let mut tree = [0u8; 3080];
-    match type_line::type_line(link, line, &mut tree) {
-        Ok(_) => true,
-        Err(fault) => fault.refusal == Refusal::TooLarge,
-    }
+fn may_end(link: LinkType, line: &[u8]) -> bool {
+    fault_of(link, line).is_none_or(|fault| fault.refusal == Refusal::TooLarge)
 }
 
 // The start of a line, behind which candidates are tried.
 #[derive(Drop)]
 struct Start {
-    link: u8,
+    link: LinkType,
     line: Vec<u8>,
     length: usize,
 }
 
 impl Start {
-    fn new(alloc: Global, link: u8, start: &[u8]) -> Result<Start> {
+    fn new(alloc: Global, link: LinkType, start: &[u8]) -> Result<Start> {
         let mut line = Vec::from_slice(alloc, start)?;
         line.push(b' ')?;
         let length = line.len();
@@ -77,30 +80,37 @@ impl<P: Print> Told<'_, P> {
         print!(to; "{word}")
     }
 
-    fn put_word(&mut self, word: &str) -> Result<()> {
-        self.put(" ", word)
+    // The words that a line takes.
+    fn put_words(&mut self, line: &mut Start) -> Result<()> {
+        for word in WORDS {
+            if line.takes(word)? {
+                self.put(" ", word)?;
+            }
+        }
+        Ok(())
     }
 
     // What is told in several words stands behind a comma.
     fn put_phrase(&mut self, phrase: &str) -> Result<()> {
         self.put(", ", phrase)
     }
+
+    fn put_phrases(&mut self, line: &mut Start) -> Result<()> {
+        for (example, phrase) in PHRASES {
+            if line.takes(example)? {
+                self.put_phrase(phrase)?;
+            }
+        }
+        Ok(())
+    }
 }
 
 // What could follow the start of a line.
-pub fn put_followers<P: Print>(to: &P, alloc: Global, link: u8, start: &[u8]) -> Result<()> {
+pub fn put_followers<P: Print>(to: &P, alloc: Global, link: LinkType, start: &[u8]) -> Result<()> {
     let mut line = Start::new(alloc, link, start)?;
     let mut told = Told { to, any: false };
-    for word in WORDS {
-        if line.takes(word)? {
-            told.put_word(word)?;
-        }
-    }
-    for (example, phrase) in PHRASES {
-        if line.takes(example)? {
-            told.put_phrase(phrase)?;
-        }
-    }
+    told.put_words(&mut line)?;
+    told.put_phrases(&mut line)?;
     if may_end(link, start) {
         told.put_phrase("the end")?;
     }
