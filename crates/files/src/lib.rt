@@ -1,10 +1,11 @@
-// Files by name; captures in windows of one lent buffer.
+// Files by name, into lent buffers or memory of their own; captures in windows of one lent buffer.
 #![tactic(auto)]
 
 mod source;
 mod windows;
 
 ghost use Rattle.std.specs.Prelude.{◌+◌, ◌≤◌, ◌<◌, ◌≡◌, length, take, vec_len, IfOk};
+ghost use Rattle.std.specs.Io.{ReadsAtMost};
 
 pub use source::{Source, open};
 use std::io::{Input, Read, Result};
@@ -20,14 +21,39 @@ pub fn read_from<R: Read>(reader: &mut R, buffer: &mut [u8], at: usize) -> Resul
     reader.read(&mut buffer[at..])
 }
 
-// The file of a name, up to so many of its bytes.
-pub fn read(rt: &(impl Files + Input + AllocGlobal), name: &[u8], most: usize) -> Result<Vec<u8>>
+// Reads until the buffer is full or the file ends.
+fn fill<R: Read>(reader: &mut R, buffer: &mut [u8]) -> Result<usize>
+    ensures { ReadsAtMost result buffer.new }
+{
+    let mut done = 0;
+    while done < buffer.len() {
+        let n = read_from(reader, buffer, done)?;
+        if n == 0 {
+            break;
+        }
+        done += n;
+    }
+    Ok(done)
+}
+
+// The file of a name, as far as the buffer has room: how many bytes of it stand at the buffer's start.
+pub fn read(rt: &(impl Files + Input), name: &[u8], buffer: &mut [u8]) -> Result<usize>
+    ensures { ReadsAtMost result buffer.new }
+{
+    fill(&mut open(rt, name)?, buffer)
+}
+
+// The same in memory of its own, up to so many bytes.
+pub fn read_up_to(
+    rt: &(impl Files + Input + AllocGlobal),
+    name: &[u8],
+    most: usize,
+) -> Result<Vec<u8>>
     ensures { IfOk result (λ bytes. vec_len bytes ≤ most) }
 {
-    let mut bytes = Vec::new(rt.alloc());
-    open(rt, name)?.take(most as u64).read_to_end(&mut bytes)?;
-    // No more came: `take` says that of each read, and this of all.
-    bytes.truncate(most);
+    let mut bytes = vec![in rt.alloc(); 0; most]?;
+    let n = read(rt, name, &mut bytes)?;
+    bytes.truncate(n);
     Ok(bytes)
 }
 
@@ -38,7 +64,7 @@ mod tests {
 
     #[test]
     fn read_takes_no_more(rt: HostRuntime) -> std::result::Result<(), Fail> {
-        let zeros = read(&rt, b"/dev/zero", 5)?;
+        let zeros = read_up_to(&rt, b"/dev/zero", 5)?;
         assert_eq!(rt; zeros.as_slice(), [0; 5].as_slice());
         Ok(())
     }

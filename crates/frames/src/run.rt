@@ -51,7 +51,7 @@ impl<R: Files + Input + AllocGlobal, A: Print, M: Print> Session<'_, R, A, M> {
 
     fn run_frame(&self, path: &[u8], tree: &[u8], program: Option<&[u8]>) -> Work<Ended> {
         let name = Name::File(path);
-        let frame = match files::read(self.rt, path, FRAME_BYTES) {
+        let frame = match files::read_up_to(self.rt, path, FRAME_BYTES) {
             Ok(frame) => frame,
             Err(error) => return Ok(self.unread(name, error)),
         };

@@ -45,7 +45,7 @@ impl<R: Files + Input + AllocGlobal, A: Print, M: Print> Session<'_, R, A, M> {
         ensures { result ≢ Err Ended.Usage }
     {
         let name = Name::File(path);
-        match files::read(self.rt, path, TREE_BYTES) {
+        match files::read_up_to(self.rt, path, TREE_BYTES) {
             Ok(tree) => Ok(Given { name, tree, files }),
             Err(error) => Err(self.unread(name, error)),
         }
