@@ -1,3 +1,4 @@
+pub mod Built
 pub mod Commands
 pub mod Numbered
 pub mod Spelled

@@ -1,2 +1,3 @@
 pub mod Endings
+pub mod Program
 pub mod Words

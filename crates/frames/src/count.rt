@@ -4,7 +4,7 @@ ghost use Rattle.std.specs.Prelude.{◌≡◌, ◌<◌, length};
 use crate::argument::Argument;
 use crate::said::{LinkName, Name, Refused};
 use crate::tree::Behind;
-use crate::{Ended, Session, Work, program_of};
+use crate::{Ended, Session, Work};
 use ast::LinkType;
 use capture::{Halt, Tally};
 use error::Refusal;
@@ -62,26 +62,25 @@ impl<R: Files + Input + AllocGlobal, A: Print, M: Print> Session<'_, R, A, M> {
         Ok(Ended::Refused)
     }
 
-    // Counts the frames of a capture. One that is refused with 12 leaves its start in the buffer.
+    // The count of a capture's frames, and the bytes of its last window: of one that is refused with 12 its start.
     fn count_of(
         &self,
         path: &[u8],
         program: &[u8],
         link: LinkType,
-        buffer: &mut [u8; ROOM],
-    ) -> io::Result<Result<Tally, Halt>> {
+    ) -> io::Result<(Result<Tally, Halt>, Vec<u8>)> {
         let mut source = files::open(self.rt, path)?;
-        files::count(&mut source, program, link, buffer)
+        let mut window = vec![in self.rt.alloc(); 0; ROOM]?;
+        let counted = files::count(&mut source, program, link, &mut window)?;
+        Ok((counted, window))
     }
 
     fn count_file(&self, path: &[u8], program: &[u8], link: LinkType) -> Work<Ended> {
         let name = Name::File(path);
-        // Lent bytes: a capture is read in windows of them.
-        let mut buffer = [0u8; ROOM];
-        match self.count_of(path, program, link, &mut buffer) {
-            Ok(Ok(tally)) => self.kept(name, tally, "of"),
-            Ok(Err(Halt { refusal, tally })) => {
-                let start = buffer.as_slice();
+        match self.count_of(path, program, link) {
+            Ok((Ok(tally), _)) => self.kept(name, tally, "of"),
+            Ok((Err(Halt { refusal, tally }), window)) => {
+                let start = window.as_slice();
                 self.stopped(
                     name,
                     Stopped {
@@ -101,13 +100,12 @@ impl<R: Files + Input + AllocGlobal, A: Print, M: Print> Session<'_, R, A, M> {
         ensures { length arguments.now < 2 → result ≡ Err Ended.Usage }
     {
         let given = self.tree(arguments, Behind::Files)?;
-        let mut buffer = [0u8; 32768];
-        let program = match program_of(&given.tree, &mut buffer) {
+        let program = match self.program(&given)? {
             Ok(program) => program,
             Err(r) => return Ok(self.refused(given.name, r)),
         };
         match reader::header(&given.tree) {
-            Ok(link) => self.over(given.files, |path| self.count_file(path, program, link)),
+            Ok(link) => self.over(given.files, |path| self.count_file(path, &program, link)),
             Err(r) => Ok(self.refused(given.name, r)),
         }
     }

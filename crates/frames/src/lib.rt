@@ -1,9 +1,11 @@
 // What `pft` answers and says: its subcommands over trees, which are files or typed lines, frame files and captures by name.
 #![tactic(auto)]
 
-ghost use Rattle.std.specs.Prelude.{◌≡◌, ◌≢◌, ◌<◌, length, Contains, MatchResult, codes};
+ghost use Rattle.std.specs.Prelude.{◌≡◌, ◌≢◌, ◌<◌, length, Contains, MatchResult, codes, Err, IfOk, IfErr};
+ghost use Rattle.build.specs.Build.{build};
 ghost use Rattle.frames.specs.Words.{IfCommand, IfWord, commands, links, over_frames};
 ghost use Rattle.frames.specs.Endings.{NotUsage};
+ghost use Rattle.frames.specs.Program.{IsProgram};
 
 mod argument;
 mod count;
@@ -21,11 +23,15 @@ use ended::Work;
 pub use ended::{Ended, tell};
 use error::Refusal;
 use said::{Name, Reason, Refused, Unread};
+use std::alloc::{AllocError, Global};
 use std::fmt::Display;
 use std::io;
 use std::io::{Error, Input, Print};
 use std::rt::Files;
-use tree::Behind;
+use tree::{Behind, Given};
+
+// The most bytes of a program: it has at most 4,096 instructions.
+const PROGRAM_BYTES: usize = 32768;
 
 // What the work is done with: files and input, where answers go, and where it is said what is refused or cannot be read.
 #[derive(Clone, Copy)]
@@ -80,16 +86,32 @@ impl<R, A: Print, M: Print> Session<'_, R, A, M> {
 
 // ---- the subcommands
 
-// The program of a tree, at the start of a buffer: lent bytes, as the build takes them.
-#[tactic(auto, using(build::proofs::Demands::fits))]
-fn program_of<'a>(tree: &[u8], buffer: &'a mut [u8; 32768]) -> Result<&'a [u8], Refusal> {
-    match build::build(tree, buffer) {
-        Ok(count) => Ok(&buffer[..8 * count as usize]),
-        Err(r) => Err(r),
+// The program of a tree, in memory of its own length, or its refusal.
+fn program_of(alloc: Global, tree: &[u8]) -> Result<Result<Vec<u8>, Refusal>, AllocError>
+    ensures program { IfOk result (λ built. IfOk built (λ bytes. IsProgram tree.now bytes.items)) }
+    ensures refused { IfOk result (λ built. IfErr built (λ r. (build tree.now 32768).answer ≡ Err r)) }
+{
+    let mut program = vec![in alloc; 0; PROGRAM_BYTES]?;
+    match build::build(tree, &mut program) {
+        Ok(count) => {
+            program.truncate(8 * count as usize);
+            Ok(Ok(program))
+        }
+        Err(r) => Ok(Err(r)),
     }
 }
 
 impl<R: Files + Input + AllocGlobal, A: Print, M: Print> Session<'_, R, A, M> {
+    // The program of a tree that is given, or its refusal.
+    fn program(&self, given: &Given) -> Work<Result<Vec<u8>, Refusal>>
+        ensures { result ≢ Err Ended.Usage }
+    {
+        match program_of(self.rt.alloc(), &given.tree) {
+            Ok(program) => Ok(program),
+            Err(error) => Err(self.unread(given.name, Error::from(error))),
+        }
+    }
+
     fn subcommand(&self, arguments: &[Argument]) -> Work<Ended>
         ensures none { length arguments.now ≡ 0 → result ≡ Err Ended.Usage }
         ensures unknown { IfWord arguments.now 0 (λ command. ¬ Contains commands command → result ≡ Err Ended.Usage) }

@@ -3,7 +3,7 @@ ghost use Rattle.frames.specs.Endings.{NotUsage};
 
 use crate::argument::Argument;
 use crate::tree::Behind;
-use crate::{Ended, Session, Work, program_of};
+use crate::{Ended, Session, Work};
 use listing::{Form, Listing};
 use std::io::{Input, Print};
 use std::rt::Files;
@@ -43,9 +43,8 @@ impl<R: Files + Input + AllocGlobal, A: Print, M: Print> Session<'_, R, A, M> {
         } else {
             self.tree(rest, Behind::Nothing)?
         };
-        let mut buffer = [0u8; 32768];
-        match program_of(&given.tree, &mut buffer) {
-            Ok(program) => self.put_listing(program, form),
+        match self.program(&given)? {
+            Ok(program) => self.put_listing(&program, form),
             Err(r) => Ok(self.refused(given.name, r)),
         }
     }
@@ -55,9 +54,8 @@ impl<R: Files + Input + AllocGlobal, A: Print, M: Print> Session<'_, R, A, M> {
         ensures { NotUsage result }
     {
         let given = self.input_tree()?;
-        let mut buffer = [0u8; 32768];
-        match program_of(&given.tree, &mut buffer) {
-            Ok(program) => self.put_listing(program, Form::Numbers),
+        match self.program(&given)? {
+            Ok(program) => self.put_listing(&program, Form::Numbers),
             Err(r) => {
                 let to = &self.answers;
                 let number = u32::from(r);

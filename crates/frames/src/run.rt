@@ -4,7 +4,7 @@ ghost use Rattle.std.specs.Prelude.{◌≡◌, ◌<◌, length};
 use crate::argument::Argument;
 use crate::said::{Name, VerdictWord};
 use crate::tree::Behind;
-use crate::{Ended, Session, Work, program_of};
+use crate::{Ended, Session, Work};
 use error::Refusal;
 use std::io::{Input, Print};
 use std::rt::Files;
@@ -67,11 +67,10 @@ impl<R: Files + Input + AllocGlobal, A: Print, M: Print> Session<'_, R, A, M> {
     {
         let given = self.tree(arguments, Behind::Files)?;
         let tree = given.tree.as_slice();
-        let mut buffer = [0u8; 32768];
-        match program_of(tree, &mut buffer) {
+        match self.program(&given)? {
             Ok(program) => self.over(
                 given.files,
-                |path| self.run_frame(path, tree, Some(program)),
+                |path| self.run_frame(path, tree, Some(program.as_slice())),
             ),
             Err(r) => {
                 let ended = self.refused(given.name, r);
