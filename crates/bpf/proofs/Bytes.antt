@@ -4,8 +4,8 @@ use mathlib.Core.Path.{◌≡◌, refl, ap, ap₂}
 use mathlib.Core.List.{List, [], ◌∷◌, ◌++◌, append_assoc}
 use native.Mathlib.Omega.{arith}
 use native.Mathlib.Nat.{add-zero, zero-add, add-suc, div-add-mod', pow-suc}
-use lib.ListN.{length, length-append, get_or-append, get_or}
-use lib.Seq.{get_or-append_seam}
+use lib.ListN.{length, length-append, get_or-append, get_or, drop}
+use lib.Seq.{get_or-append_seam, get_or-drop}
 use Rattle.bpf.specs.Bytes.{be, AreBytes, le, le_at}
 
 -- n bytes are a number below 256 ^ n

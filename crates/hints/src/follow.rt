@@ -1,6 +1,5 @@
 // What could stand at a place of a typed line. The typing itself is asked, so that there is no second grammar: each candidate is typed
 // behind the bytes before the place, and cannot follow where it is refused as unfinished at its own place.
-use ast::LinkType;
 use error::Refusal;
 use std::alloc::Global;
 use std::io::{Print, Result};
@@ -21,32 +20,32 @@ const PHRASES: [(&str, &str); 2] = [("0.0.0.0", "an address"), ("0", "a port num
 // ---- the typing is asked
 
 // Why a line is no tree file. Its bytes are lent, as the typing takes them, and not kept.
-fn fault_of(link: LinkType, line: &[u8]) -> Option<Fault> {
+fn fault_of(link: u8, line: &[u8]) -> Option<Fault> {
     let mut tree = [0u8; TYPED_BYTES];
-    type_line::type_line(link as u8, line, &mut tree).err()
+    type_line::type_line(link, line, &mut tree).err()
 }
 
 // Whether a line takes its last word, which stands at a place: it is not unfinished there.
-fn takes(link: LinkType, line: &[u8], place: usize) -> bool {
+fn takes(link: u8, line: &[u8], place: usize) -> bool {
     fault_of(link, line).is_none_or(|fault| fault.refusal != Refusal::Unfinished
         || fault.place != place)
 }
 
 // Whether a line may end as it stands.
-fn may_end(link: LinkType, line: &[u8]) -> bool {
+fn may_end(link: u8, line: &[u8]) -> bool {
     fault_of(link, line).is_none_or(|fault| fault.refusal == Refusal::TooLarge)
 }
 
 // The start of a line, behind which candidates are tried.
 #[derive(Drop)]
 struct Start {
-    link: LinkType,
+    link: u8,
     line: Vec<u8>,
     length: usize,
 }
 
 impl Start {
-    fn new(alloc: Global, link: LinkType, start: &[u8]) -> Result<Start> {
+    fn new(alloc: Global, link: u8, start: &[u8]) -> Result<Start> {
         let mut line = Vec::from_slice(alloc, start)?;
         line.push(b' ')?;
         let length = line.len();
@@ -105,8 +104,8 @@ impl<P: Print> Told<'_, P> {
     }
 }
 
-// What could follow the start of a line.
-pub fn put_followers<P: Print>(to: &P, alloc: Global, link: LinkType, start: &[u8]) -> Result<()> {
+// What could follow the start of a line. The link is any byte, as the typing takes it.
+pub fn put_followers<P: Print>(to: &P, alloc: Global, link: u8, start: &[u8]) -> Result<()> {
     let mut line = Start::new(alloc, link, start)?;
     let mut told = Told { to, any: false };
     told.put_words(&mut line)?;

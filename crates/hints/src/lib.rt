@@ -11,12 +11,11 @@ pub use row::{Shown, show};
 #[cfg(test)]
 mod tests {
     use super::*;
-    use ast::LinkType;
     use std::test::Fail;
 
     #[test]
     fn followers_are_told(rt: HostRuntime) -> std::result::Result<(), Fail> {
-        put_followers(&rt.stdout(), rt.alloc(), LinkType::Ethernet, b"tcp")?;
+        put_followers(&rt.stdout(), rt.alloc(), 1, b"tcp")?;
         Ok(())
     }
 }
