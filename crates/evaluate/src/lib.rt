@@ -379,7 +379,7 @@ impl<'a> Packet<'a> {
     }
 
     // Each join reads its parts by `eval_node`, which reads each join by its function, at fewer records left.
-    // Document 01 has a function for each join.
+    // Document 01 has a function for each join. The record is a clause of four: it is another at each call.
     #[cycle(nodes)]
     #[tactic(auto, using(reader::proofs::Here::here_and), unfolding(direct::specs::Reading::reads))]
     fn eval_and(self, tree: &[u8], i: usize) -> Read

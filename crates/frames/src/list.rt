@@ -8,7 +8,7 @@ use listing::{Form, Listing};
 use std::io::{Input, Print};
 use std::rt::Files;
 
-// The form that an option asks for.
+// The form that an option asks for. Both types of a `From` would be of other crates.
 fn form_of(word: &[u8]) -> Option<Form> {
     match word {
         b"-d" => Some(Form::Words),

@@ -17,7 +17,7 @@ use typing::Fault;
 // The typing takes an array of as many bytes as the largest tree file has.
 const TYPED_BYTES: usize = 3080;
 
-// A link by its number in a tree file or its name.
+// A link by its number in a tree file or its name. Both types of a `From` would be of other crates.
 fn link_of(word: &[u8]) -> Option<LinkType>
     ensures { IsSome result ↔ Contains links word.now }
 {

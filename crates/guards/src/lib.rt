@@ -99,7 +99,7 @@ fn note_at(tree: &[u8], notes: &[Note], i: usize) -> Note
     }
 }
 
-// The guards of each tree in a file of n records, noted from the last record back.
+// The guards of each tree in a file of n records, noted from the last record back. There may be more notes than records.
 pub fn required_guards(tree: &[u8], notes: &mut [Note], n: usize)
     requires { Here tree.now 0 × (n ≡ count_of tree.now) × (n ≤ length notes.old) }
     ensures { N.Noted tree.now notes.new 0 n }

@@ -19,7 +19,8 @@ const LONGEST_PROGRAM: usize = 32768;
 
 const LONGEST_FRAME: usize = 65535;
 
-// The fields of a code, with the numbers of Linux's filter header. The class is its lowest three bits.
+// The fields of a code, with the numbers of Linux's filter header. They are numbers and no enums: the machine's definition is tables over
+// them, and any number may come. The class is its lowest three bits.
 const LD: u16 = 0;
 
 const LDX: u16 = 1;
@@ -370,7 +371,7 @@ impl Registers {
     }
 
     // Other codes that use no scratch word. A code is a row, whose jump goes straight to its operation: one rule over a code's fields
-    // jumps twice, and makes arithmetic 1.3 to 1.7 times as slow.
+    // jumps twice, and makes arithmetic 1.3 to 1.7 times as slow, which is slower than vm.rs.
     #[tactic(auto, using(crate::proofs::Ways::left), unfolding(vm::specs::Machine::effect))]
     fn rest(&mut self, code: u16, k: u32) -> Way
         ensures { (f : List ℕ) (jt jf : ℕ) → Settles (M.effect f zeros (insn code jt jf k) self.old.a self.old.x) self.old result self.new }

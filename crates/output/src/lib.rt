@@ -6,7 +6,7 @@ ghost use Rattle.bpf.specs.Program.{insn_bytes, program_bytes};
 
 use bpf::Insn;
 
-// "An instruction is 8 bytes, little-endian: 16-bit code, jt, jf, 32-bit k."
+// "An instruction is 8 bytes, little-endian: 16-bit code, jt, jf, 32-bit k." Both types of a `From` would be of other crates.
 fn bytes_of(insn: Insn) -> [u8; 8]
     ensures { result ≡ insn_bytes insn }
 {

@@ -32,7 +32,7 @@ pub fn pft_version() -> u32
     VERSION
 }
 
-// A count, or a refusal times 65,536.
+// A count, or a refusal times 65,536. Both types of a `From` would be of other crates.
 fn build_number(res: Result<u32, Refusal>) -> u32
     ensures { result ≡ build_number res }
 {
@@ -42,7 +42,7 @@ fn build_number(res: Result<u32, Refusal>) -> u32
     }
 }
 
-// The build of a tree file into a lent buffer, as one number.
+// The build of a tree file into a lent buffer, as one number. Here and below the tree and the buffer are two parameters, as C passes them.
 pub fn pft_build(tree: &[u8], program: &mut [u8]) -> u32
     ensures { (result ≡ build_number (build tree.now (length program.old)).answer) × (program.new ≡ (build tree.now (length program.old)).buffer) }
 {

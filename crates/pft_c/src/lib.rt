@@ -18,7 +18,7 @@ pub extern "C" fn pft_version() -> u32
     pft::pft_version()
 }
 
-// The build of a tree file into a lent buffer, as one number.
+// The build of a tree file into a lent buffer, as one number. Here and below the tree and the buffer are two parameters, as C passes them.
 #[unsafe(no_mangle)]
 pub extern "C" fn pft_build(tree: &[u8], program: &mut [u8]) -> u32
     ensures { (result ≡ build_number (build tree.now (length program.old)).answer) × (program.new ≡ (build tree.now (length program.old)).buffer) }

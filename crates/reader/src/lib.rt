@@ -487,7 +487,7 @@ fn count(tree: &[u8]) -> Result<usize, Refusal>
     Ok(n)
 }
 
-// Number 3 over the n records.
+// Number 3 over the n records. Here and below n is the number that check 2 found, and not the slice's length.
 fn good_records(tree: &[u8], n: usize) -> Result<(), Refusal>
     requires { (n ≤ 128) × (place n ≤ length tree.now) }
     ensures { result ≡ C.passed (F.nodes_at n 8 tree.now) }

@@ -111,7 +111,7 @@ const HOST: u8 = 11;
 
 const PORT: u8 = 15;
 
-// The record of what an item stands for.
+// The record of what an item stands for. Both types of a `From` would be of other crates.
 fn record_of(entry: Entry) -> [u8; 24]
     ensures { result ≡ O.entry_bytes entry }
 {
