@@ -276,7 +276,7 @@ impl Stage {
 }
 
 // The whole frames at the front of a window: each is run where it lies.
-// Program and bytes stay parameters: `take_window` is called with them.
+// Program, link and bytes stay parameters: the public `take_window` and `count` have them in this order.
 #[tactic(auto, using(crate::proofs::Passing::whole_at, crate::proofs::Passing::frame_few))]
 fn count_window(program: &[u8], order: Order, bytes: &[u8]) -> Step
     ensures { result ≡ T.window program.now order bytes.now }

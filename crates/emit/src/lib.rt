@@ -16,7 +16,8 @@ use bpf::Insn;
 use codegen::{Exit, Facts, Line, Op, Side, Slot, Test, Width};
 use error::Refusal;
 
-// Writes an instruction at its place, if the lent row reaches so far.
+// Writes an instruction at its place, if the lent row reaches so far. `store` of lines does so with an item: one function for both would
+// need a crate below both for a test.
 pub fn put_insn(insns: &mut [Insn], place: usize, insn: Insn)
     ensures { insns.new ≡ set insns.old place insn }
 {

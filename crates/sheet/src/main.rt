@@ -87,7 +87,7 @@ fn host6(direction: Direction) -> Record {
     }
 }
 
-// The bound is for the count's byte: the functions that call this hand it on.
+// The bound is for the count's byte: the functions that call this hand it on, with the link and the records that a line of the sheet has.
 fn tree_file(alloc: Global, link: Link, records: &[Record]) -> io::Result<Vec<u8>>
     requires { length records.now ≤ 128 }
 {
