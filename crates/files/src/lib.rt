@@ -21,7 +21,7 @@ pub fn read_from<R: Read>(reader: &mut R, buffer: &mut [u8], at: usize) -> Resul
     reader.read(&mut buffer[at..])
 }
 
-// Reads until the buffer is full or the file ends: no method of the library stops at either.
+// Reads until the buffer is full or the file ends: no method of the library stops at either. Reader and buffer are the parameters of `Read`.
 fn fill<R: Read>(reader: &mut R, buffer: &mut [u8]) -> Result<usize>
     ensures { ReadsAtMost result buffer.new }
 {

@@ -133,7 +133,7 @@ struct State<'a> {
     ghost frame_limit: { length frame.now ≤ 65535 },
 }
 
-// The big-endian number of at most four bytes.
+// The big-endian number of at most four bytes: one for every width of a load, where a conversion of the library is for one.
 #[tactic(auto, unfolding(bpf::specs::Bytes::be))]
 fn number(bytes: &[u8]) -> u32
     requires { length bytes.now ≤ 4 }

@@ -188,7 +188,7 @@ pub struct RecordReader<'a> {
     pub index: usize,
 }
 
-// Whatever is read of a record is read by the first two.
+// Whatever is read of a record is read by the first two. The index is a clause of each: its caller may hold any.
 impl<'a> RecordReader<'a> {
     // The numbers that start at byte o of the record.
     #[tactic(auto, using(bpf::proofs::Bytes::be_first))]
