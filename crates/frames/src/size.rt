@@ -3,7 +3,6 @@ ghost use Rattle.std.specs.Prelude.{◌≡◌, length};
 
 use crate::argument::Argument;
 use crate::over::names_input_twice;
-use crate::said::Name;
 use crate::tree::{Behind, Given};
 use crate::{Ended, Session, Work};
 use std::io::{Input, Print};

@@ -58,7 +58,7 @@ impl<R: Files + Input + AllocGlobal, A: Print, M: Print> Session<'_, R, A, M> {
             "^"
         )?;
         let start = line.get(..place).unwrap_or(line);
-        hints::put_followers(to, self.rt.alloc(), link as u8, start)?;
+        hints::put_followers(to, link as u8, start)?;
         print!(to; "\n")
     }
 

@@ -1,12 +1,15 @@
 // What could stand at a place of a typed line. The typing itself is asked, so that there is no second grammar: each candidate is typed
 // behind the bytes before the place, and cannot follow where it is refused as unfinished at its own place.
+use arrayvec::ArrayVec;
 use error::Refusal;
-use std::alloc::Global;
 use std::io::{Print, Result};
 use typing::Fault;
 
 // The typing takes an array of as many bytes as the largest tree file has.
 const TYPED_BYTES: usize = 3080;
+
+// Room for the longest argument that Linux passes, 131,071 bytes, and for a candidate behind it and a space.
+const ROOM: usize = 131088;
 
 // The words in the order in which they are told.
 const WORDS: [&str; 17] = [
@@ -36,26 +39,27 @@ fn may_end(link: u8, line: &[u8]) -> bool {
     fault_of(link, line).is_none_or(|fault| fault.refusal == Refusal::TooLarge)
 }
 
-// The start of a line, behind which candidates are tried.
+// The start of a line, behind which candidates are tried: in an array, since callers lend no memory.
 #[derive(Drop)]
 struct Start {
     link: u8,
-    line: Vec<u8>,
+    line: ArrayVec<u8, ROOM>,
     length: usize,
 }
 
 impl Start {
-    fn new(alloc: Global, link: u8, start: &[u8]) -> Result<Start> {
-        let mut line = Vec::from_slice(alloc, start)?;
-        line.push(b' ')?;
+    fn new(link: u8, start: &[u8]) -> Start {
+        let mut line = ArrayVec::new();
+        let _ = line.try_extend_from_slice(start);
+        let _ = line.try_push(b' ');
         let length = line.len();
-        Ok(Start { link, line, length })
+        Start { link, line, length }
     }
 
-    fn takes(&mut self, candidate: &str) -> Result<bool> {
+    fn takes(&mut self, candidate: &str) -> bool {
         self.line.truncate(self.length);
-        self.line.extend_from_slice(candidate.as_bytes())?;
-        Ok(takes(self.link, &self.line, self.length))
+        let _ = self.line.try_extend_from_slice(candidate.as_bytes());
+        takes(self.link, self.line.as_slice(), self.length)
     }
 }
 
@@ -82,7 +86,7 @@ impl<P: Print> Told<'_, P> {
     // The words that a line takes.
     fn put_words(&mut self, line: &mut Start) -> Result<()> {
         for word in WORDS {
-            if line.takes(word)? {
+            if line.takes(word) {
                 self.put(" ", word)?;
             }
         }
@@ -96,7 +100,7 @@ impl<P: Print> Told<'_, P> {
 
     fn put_phrases(&mut self, line: &mut Start) -> Result<()> {
         for (example, phrase) in PHRASES {
-            if line.takes(example)? {
+            if line.takes(example) {
                 self.put_phrase(phrase)?;
             }
         }
@@ -105,8 +109,8 @@ impl<P: Print> Told<'_, P> {
 }
 
 // What could follow the start of a line. The link is any byte, as the typing takes it.
-pub fn put_followers<P: Print>(to: &P, alloc: Global, link: u8, start: &[u8]) -> Result<()> {
-    let mut line = Start::new(alloc, link, start)?;
+pub fn put_followers<P: Print>(to: &P, link: u8, start: &[u8]) -> Result<()> {
+    let mut line = Start::new(link, start);
     let mut told = Told { to, any: false };
     told.put_words(&mut line)?;
     told.put_phrases(&mut line)?;

@@ -15,7 +15,7 @@ mod tests {
 
     #[test]
     fn followers_are_told(rt: HostRuntime) -> std::result::Result<(), Fail> {
-        put_followers(&rt.stdout(), rt.alloc(), 1, b"tcp")?;
+        put_followers(&rt.stdout(), 1, b"tcp")?;
         Ok(())
     }
 }
