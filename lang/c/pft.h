@@ -84,8 +84,8 @@ enum pft_verdict {
 
 /*
  * The stack that a call may take, in bytes. Measured: a build, a question, a load or a count 70,500
- * for one record and 119,300 for 127 nots over one, which is the deepest tree; a direct reading 400
- * and 37,000; a typed line 4,400, whatever it is; a run or a frame below 300.
+ * for one record and 113,100 for 127 nots over one, which is the deepest tree; a direct reading 400
+ * and 30,900; a typed line 4,400, whatever it is; a run or a frame below 300.
  */
 #define PFT_STACK ((size_t)262144)
 
