@@ -1,4 +1,5 @@
 pub mod Counter
+pub mod Low
 pub mod Loads
 pub mod Onward
 pub mod Entry

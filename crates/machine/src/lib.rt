@@ -20,7 +20,7 @@ const LONGEST_PROGRAM: usize = 32768;
 const LONGEST_FRAME: usize = 65535;
 
 // The fields of a code, with the numbers of Linux's filter header. They are numbers and no enums: the machine's definition is tables over
-// them, and any number may come. The class is its lowest three bits.
+// them, and any number may come. The class is its lowest three bits. All of them lie in its low byte.
 const LD: u16 = 0;
 
 const LDX: u16 = 1;
@@ -320,7 +320,7 @@ impl<'a> State<'a> {
     fn effect(&self, insn: Insn) -> Effect
         ensures { result ≡ M.effect self.now.frame.now self.now.scratch.now insn self.now.registers.a self.now.registers.x }
     {
-        match insn.code {
+        match insn.code % 256 {
             0x02 => Effect::Store(insn.k, self.registers.a),
             0x03 => Effect::Store(insn.k, self.registers.x),
             0x07 => Effect::SetX(self.registers.a),
@@ -415,7 +415,7 @@ impl<'a> Job<'a> {
         if self.program.len() <= at + 8 {
             return Way::On;
         }
-        if le_u16(self.program, at + 8) != JEQ_K {
+        if le_u16(self.program, at + 8) % 256 != JEQ_K {
             return Way::On;
         }
         if a == le_u32(self.program, at + 12) {
@@ -441,13 +441,14 @@ impl<'a> Job<'a> {
     }
 
     // The instruction whose bytes start at a place, by its code.
-    // A code is any 16-bit number, and none is refused, so the codes are rows and no enum.
-    #[tactic(auto, using(crate::proofs::Ways::turned, crate::proofs::Ways::placed, crate::proofs::Ways::jumped), unfolding(bpf::specs::Program::insn_at, vm::specs::Machine::effect, vm::specs::Machine::ld, vm::specs::Machine::ldx, vm::specs::Machine::sized_load, vm::specs::Machine::jmp))]
+    // A code is any 16-bit number, and none is refused, so the codes are rows and no enum. They are rows of its low byte: its high byte
+    // changes nothing, and costs nothing.
+    #[tactic(auto, using(crate::proofs::Ways::turned, crate::proofs::Ways::placed, crate::proofs::Ways::jumped), unfolding(vm::specs::Machine::effect, vm::specs::Machine::ld, vm::specs::Machine::ldx, vm::specs::Machine::sized_load, vm::specs::Machine::jmp))]
     fn turn(&self, at: usize, registers: &mut Registers) -> Way
         requires { At self.now.program.now at }
         ensures { Turns self.now.program.now self.now.frame.now at registers.old result registers.new }
     {
-        let code = le_u16(self.program, at);
+        let code = le_u16(self.program, at) % 256;
         let k = le_u32(self.program, at + 4);
         match code {
             0x20 => self.load_then::<4>(at, k, registers),
