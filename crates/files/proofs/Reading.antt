@@ -82,6 +82,13 @@ module _ (P : List ℕ) (link : LinkType) where
         ap (λ m. take m (copy_within b v.tally.stop (length b) 0)) (sym (zero-add n)) ∙ take-paste b 0 rest n (omega arith) (omega (arith, k))
         ∙ ap (λ m. take m rest) (sym k) ∙ take-length rest
 
+    -- where nothing of it is used, it stands there already
+    pub window_kept : v.tally.stop ≤ 0 → b ≡ copy_within b v.tally.stop (length b) 0
+    window_kept h =
+        let z : v.tally.stop ≡ 0 = omega (arith, h) in
+        let n = length b - 0 in
+        rw z (sym (ap (λ k. take n b ++ drop k b) (zero-add n) ∙ take-append-drop n b))
+
     pub window_used : p.left ≤ length b → Sound p.tally → (t : Tally) → t ≡ sum p.tally v.tally → (c : List ℕ)
         → c ≡ copy_within b v.tally.stop (length b) 0
         → Used P link p (length b) b (record { stage = v.stage; tally = t; left = length b - v.tally.stop }) c

@@ -45,7 +45,10 @@ impl Progress {
         self.stage = step.stage;
         self.tally = self.tally + step.tally;
         self.left = window.len() - used;
-        window.copy_within(used.., 0);
+        // Bytes that wait for the rest of their frame stand there already, and are not moved at each read.
+        if used > 0 {
+            window.copy_within(used.., 0);
+        }
     }
 
     fn is_turned(&self) -> bool
