@@ -10,12 +10,11 @@
 // has no lent buffer.
 #![tactic(auto)]
 
-ghost use Rattle.std.specs.Prelude.{◌<◌};
+ghost use Rattle.std.specs.Prelude.{◌<◌, ◌≤◌, All, IfOk, length};
 
 use error::Refusal;
-use std::alloc::Global;
 use std::fmt::{Display, Formatter};
-use std::io::{BufReader, BufWriter, Read, Write};
+use std::io::{BufReader, BufWriter, ErrorKind, Read, Write};
 use std::{fmt, io};
 
 const GROUPS: [&str; 7] = [
@@ -31,10 +30,14 @@ const GROUPS: [&str; 7] = [
 // What a buffer holds before it is lent, and what has to stay behind the lent part.
 const FILLED: u8 = 0x5a;
 
-// The most that is lent, and how many bytes stand behind it.
+// The most bytes of a tree file that are read.
+const FILE: usize = 4096;
+
+// The most bytes of a program that are read, and the most that is lent but for a program of this length, which is lent more.
 const MOST: usize = 32768;
 
-const BEHIND: usize = 16;
+// A buffer has sixteen bytes more.
+const ROOM: usize = 32784;
 
 // The refusals of a build are below this.
 const REFUSALS: usize = 16;
@@ -143,11 +146,14 @@ impl Display for Tally {
 // ---- a build
 
 // What a buffer has to hold: the program, zeros up to the lent part's end, then what was there.
-fn left_by(alloc: Global, program: &[u8], lent: usize, size: usize) -> io::Result<Vec<u8>> {
-    let mut bytes = Vec::from_slice(alloc, program)?;
-    bytes.resize(lent, 0)?;
-    bytes.resize(size, FILLED)?;
-    Ok(bytes)
+fn left_by(program: &[u8], lent: usize) -> [u8; ROOM]
+    requires program { length program.now ≤ lent }
+    requires lent { lent ≤ 32784 }
+{
+    let mut bytes = [FILLED; ROOM];
+    bytes[..lent].fill(0);
+    bytes[..program.len()].copy_from_slice(program);
+    bytes
 }
 
 // The first place with another byte, or the buffer's end.
@@ -161,136 +167,160 @@ fn first_wrong(buffer: &[u8], wanted: &[u8]) -> usize {
 
 // ---- a case
 
-// The stored count or the refusal's number, and the tree file's length.
+// The stored count or the refusal's number, how many instructions are stored, and the tree file's length.
 #[derive(Clone, Copy)]
 struct Head {
     answer: Result<u16, u8>,
+    count: u16,
     file: u16,
 }
 
 impl From<[u8; 5]> for Head {
     fn from(h: [u8; 5]) -> Head {
+        let count = u16::from_be_bytes([h[1], h[2]]);
         Head {
             answer: match h[0] {
-                0 => Ok(u16::from_be_bytes([h[1], h[2]])),
+                0 => Ok(count),
                 refusal => Err(refusal),
             },
+            count,
             file: u16::from_be_bytes([h[3], h[4]]),
         }
     }
 }
 
 // A tree file with its number in its group, and the stored answer and program.
-#[derive(Drop)]
-struct Case {
+#[derive(Clone, Copy)]
+struct Case<'a> {
     index: usize,
-    head: Head,
-    file: Vec<u8>,
-    program: Vec<u8>,
+    answer: Result<u16, u8>,
+    file: &'a [u8],
+    program: &'a [u8],
+    ghost program_limit: { length program.now ≤ 32768 },
 }
 
-impl Head {
-    // How many bytes the program has.
-    fn size(self) -> usize {
-        8 * usize::from(self.answer.unwrap_or(0))
-    }
-}
-
-impl Case {
+impl Case<'_> {
     // As many bytes as a program needs; a file that is refused has 0 to 599 for that.
-    fn exact(&self) -> usize {
-        match self.head.answer {
-            Ok(_) => self.head.size(),
+    fn exact(&self) -> usize
+        ensures { result ≤ 32768 }
+    {
+        match self.answer {
+            Ok(_) => self.program.len(),
             Err(_) => self.index % 600,
         }
     }
 
     // How many bytes are lent: exactly enough, more, one too few, none, all.
-    fn lengths(&self) -> [usize; 5] {
+    fn lengths(&self) -> [usize; 5]
+        ensures { All (λ lent. lent ≤ 32784) result }
+    {
         let exact = self.exact();
-        let more = exact.saturating_add(1 + self.index % 16);
+        let more = exact + 1 + self.index % 16;
         [exact, more, exact.saturating_sub(1), 0, MOST]
     }
 
     // What a build into so many bytes has to answer.
     fn answer(&self, lent: usize) -> Answer {
-        match self.head.answer {
+        match self.answer {
             Err(refusal) => Answer::of_refusal(u32::from(refusal)),
-            Ok(_) if lent < self.head.size() => {
+            Ok(_) if lent < self.program.len() => {
                 Answer::of_refusal(u32::from(Refusal::ShortBuffer))
             }
             Ok(count) => Answer(u32::from(count)),
         }
     }
 
-    // The program that such an answer has, if it is a count.
-    fn program_of(&self, answer: Answer) -> &[u8] {
-        match answer.refusal() {
-            None => &self.program,
-            Some(_) => &[],
+    // The program that a build into so many bytes has to leave, if it has one.
+    fn program_in(&self, lent: usize) -> &[u8]
+        ensures { length result.now ≤ lent }
+    {
+        match self.answer {
+            Ok(_) if self.program.len() <= lent => self.program,
+            _ => &[],
         }
     }
 
     // How the build into so many bytes differs from what it has to be.
-    fn difference(&self, alloc: Global, lent: usize) -> io::Result<Option<Difference>> {
-        let size = lent.max(MOST).saturating_add(BEHIND);
-        let mut buffer = vec![in alloc; FILLED; size]?;
-        let here = Answer(pft::pft_build(&self.file, &mut buffer[..lent]));
+    fn difference(&self, lent: usize) -> Option<Difference>
+        requires { lent ≤ 32784 }
+    {
+        let mut buffer = [FILLED; ROOM];
+        let here = Answer(pft::pft_build(self.file, &mut buffer[..lent]));
         let wanted = self.answer(lent);
-        let wrong = first_wrong(
-            &buffer,
-            &left_by(alloc, self.program_of(wanted), lent, size)?,
-        );
+        let wrong = first_wrong(&buffer, &left_by(self.program_in(lent), lent));
         if here == wanted && wrong == buffer.len() {
-            return Ok(None);
+            return None;
         }
-        Ok(Some(Difference {
+        Some(Difference {
             lent,
             here,
             wanted,
             wrong,
-        }))
+        })
     }
 }
 
 // ---- the replay
 
+// An input without errors: a read that fails is its end.
+#[derive(Drop)]
+struct Input<R>(R);
+
+impl<R: Read> Read for Input<R> {
+    fn read(&mut self, buffer: &mut [u8]) -> io::Result<usize> {
+        Ok(self.0.read(buffer).unwrap_or(0))
+    }
+}
+
 // Each of the two replays has its own: what they share is the reading of a count and of some bytes.
 #[derive(Drop)]
 struct Replay<R, W> {
-    alloc: Global,
     input: R,
     out: W,
     tally: Tally,
 }
 
 impl<R: Read, W: Write> Replay<R, W> {
-    fn bytes(&mut self, size: usize) -> io::Result<Vec<u8>> {
-        let mut bytes = vec![in self.alloc; 0; size]?;
-        self.input.read_exact(&mut bytes)?;
-        Ok(bytes)
+    // Reads to the front of a buffer. Nothing is read where the buffer is too small.
+    fn bytes<'a, const N: usize>(
+        &mut self,
+        buffer: &'a mut [u8; N],
+        size: usize,
+    ) -> io::Result<&'a [u8]>
+        ensures { IfOk result (λ bytes. length bytes.now ≤ N) }
+    {
+        if N < size {
+            return Err(io::Error::from(ErrorKind::InvalidData));
+        }
+        self.input.read_exact(&mut buffer[..size])?;
+        Ok(&buffer[..size])
     }
 
-    fn next(&mut self, index: usize) -> io::Result<Case> {
+    fn next<'a>(
+        &mut self,
+        index: usize,
+        file: &'a mut [u8; FILE],
+        program: &'a mut [u8; MOST],
+    ) -> io::Result<Case<'a>> {
         let mut head = [0u8; 5];
         self.input.read_exact(&mut head)?;
         let head = Head::from(head);
-        let file = self.bytes(usize::from(head.file))?;
-        let program = self.bytes(head.size())?;
+        let file = self.bytes(file, usize::from(head.file))?;
+        let program = self.bytes(program, 8 * usize::from(head.count))?;
         Ok(Case {
             index,
-            head,
+            answer: head.answer,
             file,
             program,
         })
     }
 
     // A build of every length.
-    fn compare(&mut self, group: &str, case: &Case) -> io::Result<()> {
+    fn compare(&mut self, group: &str, case: &Case<'_>) -> io::Result<()> {
         let mut is_good = true;
         for lent in case.lengths() {
             self.tally.add(case.answer(lent));
-            if let Some(difference) = case.difference(self.alloc, lent)? {
+            if let Some(difference) = case.difference(lent) {
                 is_good = false;
                 self.tally.differs();
                 write!(self.out, "{difference}\n")?;
@@ -305,7 +335,8 @@ impl<R: Read, W: Write> Replay<R, W> {
 
     // What cannot be read is a difference.
     fn case(&mut self, group: &str, index: usize) -> io::Result<()> {
-        match self.next(index) {
+        let (mut file, mut program) = ([0; FILE], [0; MOST]);
+        match self.next(index, &mut file, &mut program) {
             Ok(case) => self.compare(group, &case),
             Err(_) => {
                 self.tally.differs();
@@ -338,8 +369,7 @@ impl<R: Read, W: Write> Replay<R, W> {
 fn main(rt: HostRuntime) -> io::Result<()> {
     let alloc = rt.alloc();
     let mut replay = Replay {
-        alloc,
-        input: BufReader::new(alloc, rt.reader())?,
+        input: Input(BufReader::new(alloc, rt.reader())?),
         out: BufWriter::new(alloc, io::writer(&rt))?,
         tally: Tally::default(),
     };

@@ -12,20 +12,22 @@
 //   10-11  how many zeros follow the frame's
 #![tactic(auto)]
 
-ghost use Rattle.std.specs.Prelude.{◌≡◌};
+ghost use Rattle.std.specs.Prelude.{◌≡◌, ◌+◌, ◌^◌, ◌<◌, ◌≤◌, if◌then◌else◌, IfOk};
 ghost use Rattle.vm.specs.Machine.{refusal_of, verdict_of, steps_of};
 
 use error::Refusal;
-use std::alloc::Global;
 use std::fmt::{Display, Formatter};
-use std::io::{BufReader, BufWriter, Read, Write};
+use std::io::{BufReader, BufWriter, ErrorKind, Read, Write};
 use std::{fmt, io};
 use vm::{Outcome, Verdict};
 
 const GROUPS: [&str; 4] = ["hand-made", "every code", "random", "refusals"];
 
-// What a run says, in the numbers of a case, so that all that is stored is compared.
-#[derive(Clone, Copy, Debug, PartialEq, Eq)]
+// The most bytes of a program or a frame that are read.
+const MOST: usize = 65600;
+
+// What a run says, in the numbers of a case, so that all that is stored is compared. A case that cannot be read says only zeros.
+#[derive(Clone, Copy, Debug, Default, PartialEq, Eq)]
 struct Said {
     refusal: u32,
     answer: u8,
@@ -106,21 +108,31 @@ impl Display for Said {
 impl Display for Tally {
     fn fmt<W: fmt::Write>(&self, f: &mut Formatter<W>) -> fmt::Result {
         let Tally { runs, differences } = *self;
-        write!(f, "{runs} runs, {differences} differences")
+        write!(f, "{runs} runs, {differences} differences\n")
     }
 }
 
 impl Tally {
-    fn count(&mut self, is_same: bool) {
-        self.runs = self.runs.saturating_add(1);
+    fn count(&mut self, is_same: bool)
+        requires runs { self.old.runs < 65535 }
+        requires differences { self.old.differences ≤ self.old.runs }
+        ensures runs { self.new.runs ≡ self.old.runs + 1 }
+        ensures differences { self.new.differences ≡ self.old.differences + (if is_same then 0 else 1) }
+    {
+        self.runs += 1;
         if !is_same {
-            self.differences = self.differences.saturating_add(1);
+            self.differences += 1;
         }
     }
 
-    fn add(&mut self, other: Tally) {
-        self.runs = self.runs.saturating_add(other.runs);
-        self.differences = self.differences.saturating_add(other.differences);
+    fn add(&mut self, other: Tally)
+        requires runs { self.old.runs + other.runs < 2 ^ 64 }
+        requires differences { self.old.differences + other.differences < 2 ^ 64 }
+        ensures runs { self.new.runs ≡ self.old.runs + other.runs }
+        ensures differences { self.new.differences ≡ self.old.differences + other.differences }
+    {
+        self.runs += other.runs;
+        self.differences += other.differences;
     }
 }
 
@@ -149,52 +161,77 @@ impl From<[u8; 12]> for Case {
 
 // ---- the replay
 
+// An input without errors: a read that fails is its end.
+#[derive(Drop)]
+struct Input<R>(R);
+
+impl<R: Read> Read for Input<R> {
+    fn read(&mut self, buffer: &mut [u8]) -> io::Result<usize> {
+        Ok(self.0.read(buffer).unwrap_or(0))
+    }
+}
+
+impl Size {
+    // Reads to the front of a buffer. Nothing is read where the buffer is too small.
+    fn read<'a, R: Read>(self, input: &mut R, buffer: &'a mut [u8; MOST]) -> io::Result<&'a [u8]> {
+        let stored = usize::from(self.stored);
+        let length = stored + usize::from(self.zeros);
+        if MOST < length {
+            return Err(io::Error::from(ErrorKind::InvalidData));
+        }
+        input.read_exact(&mut buffer[..stored])?;
+        buffer[stored..length].fill(0);
+        Ok(&buffer[..length])
+    }
+}
+
 // Each of the two replays has its own: what they share is the reading of a count and of some bytes.
 #[derive(Drop)]
 struct Replay<R, W> {
-    alloc: Global,
     input: R,
     out: W,
+    program: [u8; MOST],
+    frame: [u8; MOST],
 }
 
 impl<R: Read, W: Write> Replay<R, W> {
-    fn bytes(&mut self, size: Size) -> io::Result<Vec<u8>> {
-        let mut bytes = vec![in self.alloc; 0; usize::from(size.stored)]?;
-        self.input.read_exact(&mut bytes)?;
-        let length = usize::from(size.stored) + usize::from(size.zeros);
-        bytes.resize(length, 0)?;
-        Ok(bytes)
+    // What a run of the case says.
+    fn run(&mut self, case: Case) -> io::Result<Said> {
+        let program = case.program.read(&mut self.input, &mut self.program)?;
+        let frame = case.frame.read(&mut self.input, &mut self.frame)?;
+        Ok(Said::from(machine::run(program, frame)))
     }
 
-    // What is stored of the next case, and what its run says.
+    // What is stored of the next case, and what is said of it here. It fails where the input ends within the twelve bytes.
     fn next(&mut self) -> io::Result<(Said, Said)> {
         let mut head = [0u8; 12];
         self.input.read_exact(&mut head)?;
         let case = Case::from(head);
-        let program = self.bytes(case.program)?;
-        let frame = self.bytes(case.frame)?;
-        Ok((case.said, Said::from(machine::run(&program, &frame))))
+        Ok((case.said, self.run(case).unwrap_or_default()))
     }
 
-    // Answers whether the next case's run says what is stored. What cannot be read is a difference.
+    // Answers whether the next case's run says what is stored. Of a case that has no twelve bytes there is nothing to say.
     fn case(&mut self, group: &str, index: u64) -> io::Result<bool> {
         match self.next() {
             Ok((stored, here)) if stored == here => return Ok(true),
             Ok((stored, here)) => write!(self.out, "{group} {index}: {here}, stored {stored}\n")?,
-            Err(_) => write!(self.out, "{group} {index}: the case cannot be read\n")?,
+            Err(_) => {}
         }
         Ok(false)
     }
 
     // An input that ends before a group has no cases of it.
-    fn group(&mut self, group: &str) -> io::Result<Tally> {
+    fn group(&mut self, group: &str) -> io::Result<Tally>
+        ensures runs { IfOk result (λ tally. tally.runs < 65536) }
+        ensures differences { IfOk result (λ tally. tally.differences < 65536) }
+    {
         let mut count = [0u8; 2];
         let _ = self.input.read_exact(&mut count);
         let mut tally = Tally::default();
         for index in 0..u64::from(u16::from_be_bytes(count)) {
             tally.count(self.case(group, index)?);
         }
-        write!(self.out, "{group}: {tally}\n")?;
+        write!(self.out, "{group}: {tally}")?;
         Ok(tally)
     }
 
@@ -203,7 +240,7 @@ impl<R: Read, W: Write> Replay<R, W> {
         for group in GROUPS {
             tally.add(self.group(group)?);
         }
-        write!(self.out, "{tally}\n")?;
+        write!(self.out, "{tally}")?;
         self.out.flush()
     }
 }
@@ -211,9 +248,10 @@ impl<R: Read, W: Write> Replay<R, W> {
 fn main(rt: HostRuntime) -> io::Result<()> {
     let alloc = rt.alloc();
     let mut replay = Replay {
-        alloc,
-        input: BufReader::new(alloc, rt.reader())?,
+        input: Input(BufReader::new(alloc, rt.reader())?),
         out: BufWriter::new(alloc, io::writer(&rt))?,
+        program: [0; MOST],
+        frame: [0; MOST],
     };
     replay.all()
 }
