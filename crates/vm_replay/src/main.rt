@@ -224,6 +224,7 @@ impl<R: Read, W: Write> Replay<R, W> {
     fn group(&mut self, group: &str) -> io::Result<Tally>
         ensures runs { IfOk result (λ tally. tally.runs < 65536) }
         ensures differences { IfOk result (λ tally. tally.differences < 65536) }
+        ensures at_most_runs { IfOk result (λ tally. tally.differences ≤ tally.runs) }
     {
         let mut count = [0u8; 2];
         let _ = self.input.read_exact(&mut count);
