@@ -33,11 +33,11 @@ const FILLED: u8 = 0x5a;
 // The most bytes of a tree file that are read.
 const FILE: usize = 4096;
 
-// The most bytes of a program that are read, and the most that is lent but for a program of this length, which is lent more.
+// The most bytes of a program that are read, and how many are lent at the last turn.
 const MOST: usize = 32768;
 
-// A buffer has sixteen bytes more.
-const ROOM: usize = 32784;
+// A buffer has room for sixteen more: so many may be lent beyond a program.
+const ROOM: usize = MOST + 16;
 
 // The refusals of a build are below this.
 const REFUSALS: usize = 16;
@@ -148,7 +148,7 @@ impl Display for Tally {
 // What a buffer has to hold: the program, zeros up to the lent part's end, then what was there.
 fn left_by(program: &[u8], lent: usize) -> [u8; ROOM]
     requires program { length program.now ≤ lent }
-    requires lent { lent ≤ 32784 }
+    requires lent { lent ≤ ROOM }
 {
     let mut bytes = [FILLED; ROOM];
     bytes[..lent].fill(0);
@@ -202,7 +202,7 @@ struct Case<'a> {
 impl Case<'_> {
     // As many bytes as a program needs; a file that is refused has 0 to 599 for that.
     fn exact(&self) -> usize
-        ensures { result ≤ 32768 }
+        ensures { result ≤ MOST }
     {
         match self.answer {
             Ok(_) => self.program.len(),
@@ -212,7 +212,7 @@ impl Case<'_> {
 
     // How many bytes are lent: exactly enough, more, one too few, none, all.
     fn lengths(&self) -> [usize; 5]
-        ensures { All (λ lent. lent ≤ 32784) result }
+        ensures { All (λ lent. lent ≤ ROOM) result }
     {
         let exact = self.exact();
         let more = exact + 1 + self.index % 16;
@@ -242,7 +242,7 @@ impl Case<'_> {
 
     // How the build into so many bytes differs from what it has to be.
     fn difference(&self, lent: usize) -> Option<Difference>
-        requires { lent ≤ 32784 }
+        requires { lent ≤ ROOM }
     {
         let mut buffer = [FILLED; ROOM];
         let here = Answer(pft::pft_build(self.file, &mut buffer[..lent]));
