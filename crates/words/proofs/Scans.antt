@@ -3,7 +3,9 @@ use Rattle.std.proofs.Common.{None, Some, ℕ, zero, suc, ◌+◌, ◌*◌, ◌-
 use Rattle.std.specs.List.{position, position_or_len}
 use lib.Dec.{eqb, leb, ltb}
 use lib.Seq.{drop-cons}
-use borrow.Author.Tests.{lt-leb, leb-true, ltb-true, ltb-false}
+use borrow.Author.Tests.{lt-leb, leb-true, ltb-true, ltb-false, eq-eqb, ne_eqb}
+use Rattle.std.proofs.lemmas.Bool.{lt-ltb}
+use Rattle.std.proofs.lemmas.List.Sums.{position_or_len_is}
 use Rattle.typing.specs.Words.{digits, value, empty, decimal, up_to}
 use Rattle.words.specs.Numbers.{counted}
 
@@ -61,6 +63,37 @@ take_up_to stop (c ∷ s) = by (eqb c stop) (take_up_to stop s)
     by : (b : Bool) → take (length (up_to stop s)) s ≡ up_to stop s → take (length (cond b [] (c ∷ up_to stop s))) (c ∷ s) ≡ cond b [] (c ∷ up_to stop s)
     by true ih = refl
     by false ih = ap (λ t. c ∷ t) ih
+
+-- ---- the loop that looks for it
+
+-- no stop stands before a place
+pub record Before (stop : ℕ) (s : List ℕ) (i : ℕ) : Type 0 where
+  pub none : (k : ℕ) → k < i → eqb (get_or s k 0) stop ≡ false
+
+pub before_none : (stop : ℕ) (s : List ℕ) → Before stop s 0
+before_none stop s = record { none = λ k h. absurd (omega arith) }
+
+pub before_more : (stop : ℕ) (s : List ℕ) (i : ℕ) → Before stop s i → (get_or s i 0 ≡ stop → ⊥) → Before stop s (i + 1)
+before_more stop s i h e = record { none = λ k j. by k j (ltb k i) refl }
+  where
+    by : (k : ℕ) → k < i + 1 → (b : Bool) → ltb k i ≡ b → eqb (get_or s k 0) stop ≡ false
+    by k j true f = h.none k (ltb-true k i f)
+    by k j false f = let z : k ≡ i = omega (arith, ltb-false k i f) in rw z (ne_eqb (get_or s i 0) stop e)
+
+pub found_here : (stop : ℕ) (s : List ℕ) (i : ℕ) → Before stop s i → i < length s → get_or s i 0 ≡ stop → Some i ≡ position (λ b. eqb b stop) s
+found_here stop s i h k e =
+    let n : position_or_len (λ b. eqb b stop) s ≡ i = position_or_len_is (λ b. eqb b stop) s i 0 (omega arith) h.none (λ _. eq-eqb (get_or s i 0) stop e) in
+    rw (n, lt-ltb i (length s) k) refl
+
+pub found_nowhere : (stop : ℕ) (s : List ℕ) → Before stop s (length s) → None ≡ position (λ b. eqb b stop) s
+found_nowhere stop s h = by (ltb (position_or_len (λ b. eqb b stop) s) (length s)) refl
+  where
+    n : position_or_len (λ b. eqb b stop) s ≡ length s
+    n = position_or_len_is (λ b. eqb b stop) s (length s) 0 (omega arith) h.none (λ k. absurd (omega arith))
+
+    by : (b : Bool) → ltb (position_or_len (λ b. eqb b stop) s) (length s) ≡ b → None ≡ cond b (Some (position_or_len (λ b. eqb b stop) s)) None
+    by true f = absurd (omega (arith, n, ltb-true _ (length s) f))
+    by false f = refl
 
 -- ---- digits
 

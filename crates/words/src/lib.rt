@@ -8,10 +8,17 @@ ghost use Rattle.words.specs.Numbers.{counted, numeral_of, Few};
 use typing::{Join, Name, Side, Transport, Word};
 
 // Where the first byte that is `stop` stands.
+// By a loop over places: `position` counts beside its iterator, which takes longer over a long word.
+#[tactic(auto, using(crate::proofs::Scans::before_none, crate::proofs::Scans::before_more, crate::proofs::Scans::found_here, crate::proofs::Scans::found_nowhere))]
 fn find(text: &[u8], stop: u8) -> Option<usize>
     ensures { result ≡ position (λ byte. byte == stop) text.now }
 {
-    text.iter().position(|byte| *byte == stop)
+    for (place, byte) in text.iter().enumerate() {
+        if *byte == stop {
+            return Some(place);
+        }
+    }
+    None
 }
 
 // How many bytes stand before the first that is `stop`, or all.
