@@ -26,6 +26,16 @@ pub struct Item {
     pub entry: Entry,
 }
 
+// Where the parts of an item stand that is one number: the open brackets in its lowest byte, then kind, direction and protocol, and the
+// address or the port.
+pub const KIND_AT: u64 = 256;
+
+pub const DIRECTION_AT: u64 = 65536;
+
+pub const PROTOCOL_AT: u64 = 16777216;
+
+pub const VALUE_AT: u64 = 4294967296;
+
 // How many values a byte has.
 const BYTES: usize = 256;
 

@@ -1,4 +1,5 @@
 pub mod Ordered
 pub mod Slices
+pub mod Stands
 pub mod Writes
 pub mod Records

@@ -6,11 +6,9 @@ use native.Mathlib.Omega.{arith}
 use native.Mathlib.Numerals.{add-one}
 use lib.ListN.{length, take, drop, get_or, length-append, length-drop}
 use lib.Seq.{take_at, drop_at, drop-drop, length-take-le, take-suc}
-use Rattle.typing.specs.declared.Term.TheVariants.{Named, Bare, Hosts, Ports}
-use Rattle.lines.specs.declared.Entry.{Entry}
-use Rattle.lines.specs.declared.Entry.TheVariants.{Not, Both, Leaf}
 use Rattle.lines.specs.declared.Item.{Item}
-use Rattle.records.specs.Order.{entry_bytes, file_bytes}
+use Rattle.records.specs.Arrange.{rows}
+use Rattle.records.specs.Order.{row, file_bytes}
 
 -- n bytes X written at a place
 pub record Wrote (l : List ℕ) (at n : ℕ) (X m : List ℕ) : Type 0 where
@@ -48,32 +46,36 @@ wrote_length {l} {m} {X} {at} {n} a =
 
 -- ---- all records
 
+module _ {A : Type 0} (row : A → List ℕ) where
+  pub rows_append : (xs ys : List A) → rows row (xs ++ ys) ≡ rows row xs ++ rows row ys
+  rows_append [] ys = refl
+  rows_append (x ∷ xs) ys = ap (λ s. row x ++ s) (rows_append xs ys) ∙ sym (append_assoc (row x) (rows row xs) (rows row ys))
+
+  rows_next : (xs : List A) (i : ℕ) (d : A) → i < length xs → rows row (take (i + 1) xs) ≡ rows row (take i xs) ++ row (get_or xs i d)
+  rows_next xs i d h =
+      let x = get_or xs i d in
+      rw (add-one i) (ap (rows row) (take-suc xs i d h) ∙ (rows_append (take i xs) (x ∷ []) ∙ ap (λ s. rows row (take i xs) ++ s) (append-nil (row x))))
+
+  pub record Filling (tree₀ : List ℕ) (xs : List A) (tree : List ℕ) (i : ℕ) : Type 0 where
+    pub most : i ≤ length xs
+    pub wrote : Wrote tree₀ 8 (24 * i) (rows row (take i xs)) tree
+
+  pub filling_next : {tree₀ tree tree' part : List ℕ} {xs : List A} {i : ℕ} (d : A) → Filling tree₀ xs tree i → i < length xs → 8 + 24 * length xs ≤ length tree₀
+      → length part ≡ 24 → part ≡ row (get_or xs i d) → tree' ≡ take (8 + 24 * i) tree ++ part ++ drop (8 + 24 * i + length part) tree → Filling tree₀ xs tree' (i + 1)
+  filling_next {tree₀} {tree} {tree'} {part} {xs} {i} d f h room long p e =
+      let one : Wrote tree (8 + 24 * i) 24 part tree' = record { long = long; fits = omega (arith, wrote_length f.wrote); is = rw long at e } in
+      let two = and_then f.wrote one (omega arith) in
+      let size : 24 * i + 24 ≡ 24 * (i + 1) = omega arith in
+      record { most = omega arith; wrote = rw (size, p, ← rows_next xs i d h) at two }
+
 pub file_append : (xs ys : List Item) → file_bytes (xs ++ ys) ≡ file_bytes xs ++ file_bytes ys
-file_append [] ys = refl
-file_append (x ∷ xs) ys = ap (λ s. entry_bytes x.entry ++ s) (file_append xs ys) ∙ sym (append_assoc (entry_bytes x.entry) (file_bytes xs) (file_bytes ys))
+file_append xs ys = rows_append row xs ys
 
-entry_length : (e : Entry) → length (entry_bytes e) ≡ 24
-entry_length Not = refl
-entry_length (Both j) = refl
-entry_length (Leaf (Named n)) = refl
-entry_length (Leaf (Bare t)) = refl
-entry_length (Leaf (Hosts s a)) = refl
-entry_length (Leaf (Ports t s k)) = refl
+-- ---- the whole file
 
-file_next : (xs : List Item) (i : ℕ) (d : Item) → i < length xs → file_bytes (take (i + 1) xs) ≡ file_bytes (take i xs) ++ entry_bytes (get_or xs i d).entry
-file_next xs i d h =
-    let x = get_or xs i d in
-    rw (add-one i) (ap file_bytes (take-suc xs i d h) ∙ (file_append (take i xs) (x ∷ []) ∙ ap (λ s. file_bytes (take i xs) ++ s) (append-nil (entry_bytes x.entry))))
-
-pub record Filling (tree₀ : List ℕ) (xs : List Item) (tree : List ℕ) (i : ℕ) : Type 0 where
-  pub most : i ≤ length xs
-  pub wrote : Wrote tree₀ 8 (24 * i) (file_bytes (take i xs)) tree
-
-pub filling_next : {tree₀ tree tree' part : List ℕ} {xs : List Item} {i : ℕ} (d : Item) → Filling tree₀ xs tree i → i < length xs → 8 + 24 * length xs ≤ length tree₀
-    → part ≡ entry_bytes (get_or xs i d).entry → tree' ≡ take (8 + 24 * i) tree ++ part ++ drop (8 + 24 * i + length part) tree → Filling tree₀ xs tree' (i + 1)
-filling_next {tree₀} {tree} {tree'} {part} {xs} {i} d f h room p e =
-    let long : length part ≡ 24 = ap length p ∙ entry_length (get_or xs i d).entry in
-    let one : Wrote tree (8 + 24 * i) 24 part tree' = record { long = long; fits = omega (arith, wrote_length f.wrote); is = rw long at e } in
-    let two = and_then f.wrote one (omega arith) in
-    let size : 24 * i + 24 ≡ 24 * (i + 1) = omega arith in
-    record { most = omega arith; wrote = rw (size, p, ← file_next xs i d h) at two }
+pub file_is : (tree head part : List ℕ) (k : ℕ) {tree₁ tree₂ : List ℕ} → length head ≡ 8 → tree₁ ≡ head ++ drop 8 tree → tree₂ ≡ take 8 tree₁ ++ part ++ drop (8 + k) tree₁ → tree₂ ≡ (head ++ part) ++ drop (8 + k) tree
+file_is tree head part k {tree₁} {tree₂} long e h =
+    let front : take 8 tree₁ ≡ head = ap (take 8) e ∙ take_at head (drop 8 tree) 8 long in
+    let rest : drop 8 tree₁ ≡ drop 8 tree = ap (drop 8) e ∙ drop_at head (drop 8 tree) 8 long in
+    let back : drop (8 + k) tree₁ ≡ drop (8 + k) tree = sym (drop-drop k 8 tree₁) ∙ (ap (drop k) rest ∙ drop-drop k 8 tree) in
+    h ∙ ap₂ (λ s t. s ++ part ++ t) front back
