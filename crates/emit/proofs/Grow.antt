@@ -18,8 +18,36 @@ use Rattle.codegen.specs.Block.{Block, same, far, far_line, sets_x, writes_x, as
 use Rattle.codegen.specs.Emit.{Code, code}
 use Rattle.emit.specs.declared.Patch.{Patch}
 use Rattle.emit.specs.declared.Emitter.{Emitter}
-use Rattle.emit.specs.Lines.{assembled, exit_of, patch_of, pending, patches, waiting, writes}
-use Rattle.emit.specs.Grown.{Space, Room, Fits, Put, Waits, Grew, Grows}
+use Rattle.emit.specs.Lines.{assembled, exit_of, patch_of, pending, patches, writes}
+use Rattle.emit.specs.Grown.{Space, Room, Fits, Kept, Put, Waits, Grew, Grows}
+
+-- ---- what stays
+
+pub kept_self : (e : Emitter) → Kept e e
+kept_self e = record { same_insns = refl; same_won = refl; same_lost = refl; row = refl; won_room = refl; lost_room = refl; link = refl }
+
+pub kept_then : {e f k : Emitter} → Kept e f → Kept f k → Kept e k
+kept_then p q = record {
+  same_insns = q.same_insns ∙ p.same_insns;
+  same_won = q.same_won ∙ p.same_won;
+  same_lost = q.same_lost ∙ p.same_lost;
+  row = q.row ∙ p.row;
+  won_room = q.won_room ∙ p.won_room;
+  lost_room = q.lost_room ∙ p.lost_room;
+  link = q.link ∙ p.link;
+}
+
+-- whatever else is known, and however often X was written before
+pub kept_knowing : {e f : Emitter} (n : ℕ) (h : Facts) → Kept (record e { x_writes = n }) f → Kept e (record f { facts = h })
+kept_knowing n h p = record {
+  same_insns = p.same_insns;
+  same_won = p.same_won;
+  same_lost = p.same_lost;
+  row = p.row;
+  won_room = p.won_room;
+  lost_room = p.lost_room;
+  link = p.link;
+}
 
 -- ---- one line
 
@@ -43,10 +71,7 @@ one_line {e} {p} {f} l h w n = record {
   won = rw (w.won, h.won);
   lost = rw (w.lost, h.lost);
   facts = w.facts ∙ h.facts;
-  row = rw (w.insns, h.insns, length-set);
-  won_room = w.won_room ∙ h.won_room;
-  lost_room = w.lost_room ∙ h.lost_room;
-  link = w.link ∙ h.link;
+  kept = kept_then h.kept (kept_knowing (p.x_writes + bool_byte (sets_x l)) f.facts w.kept);
 }
 
 -- ---- a block, and a block after it
@@ -135,15 +160,12 @@ none e = record {
   won = rw append-nil;
   lost = rw append-nil;
   facts = refl;
-  row = refl;
-  won_room = refl;
-  lost_room = refl;
-  link = refl;
+  kept = kept_self e;
 }
 
 -- lines that reach to a block's end reached to its start
 pub reached : {c : Code} {e f : Emitter} → Grew c e f → f.count ≤ length f.insns.now → e.count ≤ length e.insns.now
-reached g h = omega (arith, g.insns, g.row)
+reached g h = omega (arith, g.insns, g.kept.row)
 
 pub then : {A : Block} {g : Facts} {c : Code} {e f k : Emitter} → Grew (code A g) e f → Grew c f k → Grew (code (A ++ c.block) c.facts) e k
 then {A} {g} {c} {e} p q = record {
@@ -156,15 +178,12 @@ then {A} {g} {c} {e} p q = record {
   won = rw (q.won, p.won, patches_append, append_assoc, ← p.insns);
   lost = rw (q.lost, p.lost, patches_append, append_assoc, ← p.insns);
   facts = q.facts;
-  row = q.row ∙ p.row;
-  won_room = q.won_room ∙ p.won_room;
-  lost_room = q.lost_room ∙ p.lost_room;
-  link = q.link ∙ p.link;
+  kept = kept_then p.kept q.kept;
 }
 
 -- other facts hold after a block
 pub knowing : {b : Block} {g h h' : Facts} {e f : Emitter} → h' ≡ h → Grew (code b g) e f → Grew (code b h) e (record f { facts = h' })
-knowing q p = record {
+knowing {h' = h'} {e = e} q p = record {
   insns = p.insns;
   successes = p.successes;
   failures = p.failures;
@@ -174,10 +193,7 @@ knowing q p = record {
   won = p.won;
   lost = p.lost;
   facts = q;
-  row = p.row;
-  won_room = p.won_room;
-  lost_room = p.lost_room;
-  link = p.link;
+  kept = kept_knowing e.x_writes h' p.kept;
 }
 
 -- the same with a block that learns nothing
@@ -211,8 +227,8 @@ sized {c} {e} n h g =
       successes₀ = omega (arith, g.successes);
       failures₀ = omega (arith, g.failures);
       writings₀ = omega (arith, g.writings);
-      won_room = g.won_room;
-      lost_room = g.lost_room;
+      won_room = g.kept.won_room;
+      lost_room = g.kept.lost_room;
     }
 
 -- what is left of the room

@@ -11,7 +11,7 @@ use Rattle.codegen.specs.Emit.{Code, code}
 use Rattle.emit.specs.declared.Emitter.{Emitter}
 use Rattle.emit.specs.Grown.{Grew, Answers, Replies, coded}
 use Rattle.emit.proofs.Grow.{writes_none, writes_some}
-use Rattle.emit.proofs.Outcome.{Went, after, after_reply}
+use Rattle.emit.proofs.Outcome.{Went, turned_down, after, after_reply}
 
 -- ---- a block that was settled
 
@@ -47,9 +47,9 @@ module _ {o : Out Code} {e f : Emitter} (w : Went o e f) (s : Block → Block) (
       let n = settled_near (s w.code.block) g e k d p in
       rw (w.eq, n.near) (after_reply (next w.code) q n.grew h)
 
-  pub settled_refused : {q : Refusal} → r ≡ Err q → (next : Code → Block → Out Code) {j : Emitter}
-      → Replies (o >>= λ b. resolved (s b.block) >>= next b) e j (Err q)
-  settled_refused p next = rw (w.eq, settled_far (s w.code.block) g e k d p) (record { is = refl })
+  pub settled_refused : {q : Refusal} → r ≡ Err q → (next : Code → Block → Out Code)
+      → Replies (o >>= λ b. resolved (s b.block) >>= next b) e k (Err q)
+  settled_refused p next = rw (w.eq, settled_far (s w.code.block) g e k d p) (turned_down d.kept)
 
 -- ---- the facts after a block, changed
 

@@ -8,8 +8,8 @@ use Rattle.codegen.specs.declared.Facts.{Facts}
 use Rattle.codegen.specs.Block.{Block}
 use Rattle.codegen.specs.Emit.{Code, code}
 use Rattle.emit.specs.declared.Emitter.{Emitter}
-use Rattle.emit.specs.Grown.{Grew, Grows, Answers, Replies}
-use Rattle.emit.proofs.Grow.{none, then}
+use Rattle.emit.specs.Grown.{Kept, Grew, Grows, Answers, Replies}
+use Rattle.emit.proofs.Grow.{kept_self, kept_then, none, then}
 
 -- ---- an answer that was a refusal, and one that was not
 
@@ -36,14 +36,14 @@ module _ {o : Out Code} {e f : Emitter} {r : Out (Unit {0})} (h : Replies o e f 
 -- ---- answers made
 
 pub answer : {c : Code} {e f : Emitter} → Grew c e f → Replies (Ok c) e f (Ok tt)
-answer h = record { is = h }
+answer h = record { is = h; kept = h.kept }
 
 -- nothing was added
 pub unchanged : (e : Emitter) → Replies (Ok (code [] e.facts)) e e (Ok tt)
-unchanged e = record { is = none e }
+unchanged e = record { is = none e; kept = kept_self e }
 
-pub turned_down : {q : Refusal} (e f : Emitter) → Replies (Err q) e f (Err q)
-turned_down e f = record { is = refl }
+pub turned_down : {q : Refusal} {e f : Emitter} → Kept e f → Replies (Err q) e f (Err q)
+turned_down k = record { is = refl; kept = k }
 
 -- a refusal that a `?` hands on
 pub handed_on : {o : Out Code} {e f : Emitter} {r : Out (Unit {0})} {q : Refusal} → IsErrAnd r (λ y. y ≡ q) → Replies o e f (Err q) → Replies o e f r
@@ -57,16 +57,15 @@ after b o = o >>= λ c. Ok (code (b ++ c.block) c.facts)
 
 pub after_reply : {A : Block} {g : Facts} {e f k : Emitter} (o : Out Code) (r : Out (Unit {0}))
     → Grew (code A g) e f → Replies o f k r → Replies (after A o) e k r
-after_reply (Ok c) (Ok u) g h = record { is = then g h.is }
-after_reply (Ok c) (Err q) g h = record { is = h.is }
-after_reply (Err p) (Ok u) g h = record { is = h.is }
-after_reply (Err p) (Err q) g h = record { is = h.is }
+after_reply (Ok c) (Ok u) g h = record { is = then g h.is; kept = kept_then g.kept h.kept }
+after_reply (Ok c) (Err q) g h = record { is = h.is; kept = kept_then g.kept h.kept }
+after_reply (Err p) (Ok u) g h = record { is = h.is; kept = kept_then g.kept h.kept }
+after_reply (Err p) (Err q) g h = record { is = h.is; kept = kept_then g.kept h.kept }
 
 module _ {o : Out Code} {e f : Emitter} where
-  pub bind_refused : {r : Out (Unit {0})} {q : Refusal} → Replies o e f r → r ≡ Err q → (k : Code → Out Code) {j : Emitter}
-      → Replies (o >>= k) e j (Err q)
-  bind_refused h p k = rw (reply_refused h p) (record { is = refl })
+  pub bind_refused : {r : Out (Unit {0})} {q : Refusal} → Replies o e f r → r ≡ Err q → (k : Code → Out Code) → Replies (o >>= k) e f (Err q)
+  bind_refused h p k = rw (reply_refused h p) (turned_down h.kept)
 
   -- a known block follows
   pub bind_grew : {k : Emitter} {b : Block} → Went o e f → Grows b f k → Replies (o >>= λ c. Ok (code (c.block ++ b) c.facts)) e k (Ok tt)
-  bind_grew w g = let z = then w.grew g in rw (w.eq, ← w.grew.facts) (record { is = z })
+  bind_grew w g = let z = then w.grew g in rw (w.eq, ← w.grew.facts) (answer z)

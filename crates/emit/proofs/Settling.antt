@@ -26,8 +26,9 @@ use Rattle.codegen.proofs.Near.{length_turn}
 use Rattle.emit.specs.declared.Patch.{Patch}
 use Rattle.emit.specs.declared.Emitter.{Emitter}
 use Rattle.emit.specs.Lines.{assembled, with_distance, no_insn, exit_of, patch_of, place_of, pending, patches, waiting, writes, resolved, resolve, Below}
-use Rattle.emit.specs.Grown.{Grew, Grows, Answers, Turned, Replies, stack_of, Cut, Open, Settled, coded, Otherwise}
-use Rattle.emit.proofs.Grow.{assembled_length, far_append, reached, then, knowing}
+use Rattle.emit.specs.Grown.{Kept, Grew, Grows, Answers, Turned, Replies, stack_of, Cut, Open, Settled, coded, Otherwise}
+use Rattle.emit.proofs.Grow.{kept_then, assembled_length, far_append, reached, then, knowing}
+use Rattle.emit.proofs.Outcome.{answer, turned_down}
 use Rattle.emit.proofs.Resolving.{near_cons, far_cons}
 
 -- ---- a line whose exits are exchanged
@@ -306,7 +307,7 @@ module _ {c : Code} {d e f : Emitter} (g : Grew c d e) (over : ℕ) {r : Out (Un
         → take f.count f.insns.now ≡ take d.count d.insns.now ++ assembled (settle s over c.block)
     lines_of near k =
         let C = settle s over c.block in
-        let h' : e.count ≤ length e.insns.now = omega (arith, z.count, z.long) in
+        let h' : e.count ≤ length e.insns.now = omega (arith, z.count, z.kept.row) in
         let w = settles_lines (far C) _ f.insns.now r near (subst (λ x. Answers x (λ ys. f.insns.now ≡ ys) r) (row_law g s h h' over) row) in
         let n : length (take d.count d.insns.now ++ assembled C) ≡ f.count =
         simp (length-append, assembled_length, before g s h h', length_settle) (omega (arith, g.insns, z.count)) in
@@ -326,10 +327,7 @@ module _ {c : Code} {d e f : Emitter} (g : Grew c d e) (over : ℕ) {r : Out (Un
         (cut_back d.success.patches.now e.success.patches.now (patches Success d.count c.block) d.success.len e.success.len h (omega (arith, g.successes)) g.won);
     lost = rw (settle_kept Success over d.count c.block, q.1, z.lost) g.lost;
     facts = z.facts;
-    row = z.long ∙ g.row;
-    won_room = ap length z.won ∙ g.won_room;
-    lost_room = ap length z.lost ∙ g.lost_room;
-    link = z.link ∙ g.link;
+    kept = kept_then g.kept z.kept;
   }
 
   pub settled_failure : Held Failure d → (z : Settled Failure d.failure.len over e f r) → far (settle Failure over c.block) ≡ false
@@ -345,10 +343,7 @@ module _ {c : Code} {d e f : Emitter} (g : Grew c d e) (over : ℕ) {r : Out (Un
     lost = rw (settle_gone Failure over d.count c.block, append-nil, q.1, z.lost)
         (cut_back d.failure.patches.now e.failure.patches.now (patches Failure d.count c.block) d.failure.len e.failure.len h (omega (arith, g.failures)) g.lost);
     facts = z.facts;
-    row = z.long ∙ g.row;
-    won_room = ap length z.won ∙ g.won_room;
-    lost_room = ap length z.lost ∙ g.lost_room;
-    link = z.link ∙ g.link;
+    kept = kept_then g.kept z.kept;
   }
 
   settled_side : (s : Side) → Held s d → Settled s (stack_of s d).len over e f r → far (settle s over c.block) ≡ false
@@ -360,18 +355,18 @@ module _ {c : Code} {d e f : Emitter} (g : Grew c d e) (over : ℕ) {r : Out (Un
   settled s h z = go (far (settle s over c.block)) refl
     where
       go : (b : Bool) → far (settle s over c.block) ≡ b → Replies (coded e.facts (in_range (settle s over c.block))) d f r
-      go true q = let t = told s h z ∙ ap (λ (x : Bool). cond x (Err FarJump) (Ok tt)) q in rw (q, t) (record { is = refl })
+      go true q = let t = told s h z ∙ ap (λ (x : Bool). cond x (Err FarJump) (Ok tt)) q in rw (q, t) (turned_down (kept_then g.kept z.kept))
       go false q =
           let t = told s h z ∙ ap (λ (x : Bool). cond x (Err FarJump) (Ok tt)) q in
           let k = rw t at z.cut in
-          rw (q, t) (record { is = settled_side s h z q k })
+          rw (q, t) (answer (settled_side s h z q k))
 
 -- what `otherwise` does to a block that was added: a `ja` after it, and its failures settled
 pub otherwise_open : {e f : Emitter} (mark : ℕ) → Grows (Jump (Leave Success) ∷ []) e f → Open Failure mark 0 e → e.count + 1 ≤ 65536 → Open Failure mark 0 f
 otherwise_open {e} {f} mark g o h = record {
   most = omega (arith, g.insns);
   mark = omega (arith, g.failures, o.mark);
-  room = omega (arith, g.failures, o.room, g.lost_room);
+  room = omega (arith, g.failures, o.room, g.kept.lost_room);
   below = rw (g.lost, append-nil) (below_more (e.count + 0) (f.count + 0) (drop mark (waiting e.failure)) (omega (arith, g.insns)) o.below);
 }
 
@@ -379,6 +374,7 @@ pub otherwise_of : {e f k : Emitter} {r : Out (Unit {0})} (mark : ℕ) → Grows
 unfolding otherwise
 otherwise_of {e} {f} {k} {r} mark j z = record {
   of = λ b d g m h. rw (← j.facts) (settled (then g j) 0 Failure h (rw (← m) at z));
+  kept = kept_then j.kept z.kept;
 }
 
 -- a block was added since a stack was so long
@@ -474,6 +470,18 @@ turn_failure d p (l ∷ B) =
     rw (patch_swap Success (Leave Failure) (swap_line Failure (Skip n) l) p, patch_swap Failure (Skip n) l p, exit_swap Success (Leave Failure) (swap_line Failure (Skip n) l), exit_swap Failure (Skip n) l, turn_failure d (p + 1) B)
     (turn_exit n (patch_of l p) (exit_of l) (patches Success (p + 1) (settle Failure d B)))
 
+-- what stays between two exchanges stays before and after them
+pub turned_kept : {d e f k : Emitter} → Turned d e → Kept e f → Turned f k → Kept d k
+turned_kept p g q = record {
+  same_insns = q.same_insns ∙ g.same_insns ∙ p.same_insns;
+  same_won = q.same_won ∙ g.same_lost ∙ p.same_lost;
+  same_lost = q.same_lost ∙ g.same_won ∙ p.same_won;
+  row = ap length q.insns ∙ g.row ∙ ap length p.insns;
+  won_room = ap length q.won ∙ g.lost_room ∙ ap length p.lost;
+  lost_room = ap length q.lost ∙ g.won_room ∙ ap length p.won;
+  link = q.link ∙ g.link ∙ p.link;
+}
+
 -- a block that was added between two exchanges is turned, after `otherwise`
 pub turn_grew : (B : Block) {d e f k : Emitter} → Turned d e → Grew (code (otherwise B) f.facts) e f → Turned f k → Grew (code (turn (otherwise B)) k.facts) d k
 unfolding otherwise
@@ -492,8 +500,5 @@ turn_grew B {d} {e} {f} {k} p g q =
       won = rw (y, ← p.count, q.success, q.won, ← p.failure, ← p.lost) g.lost;
       lost = rw (n, ← p.count, q.failure, q.lost, ← p.success, ← p.won) g.won;
       facts = refl;
-      row = ap length q.insns ∙ g.row ∙ ap length p.insns;
-      won_room = ap length q.won ∙ g.lost_room ∙ ap length p.lost;
-      lost_room = ap length q.lost ∙ g.won_room ∙ ap length p.won;
-      link = q.link ∙ g.link ∙ p.link;
+      kept = turned_kept p g.kept q;
     }

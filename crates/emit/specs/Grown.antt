@@ -1,5 +1,6 @@
 -- What the functions of the generator leave in an emitter.
 use Rattle.std.specs.Prelude.{ℕ, ◌+◌, ◌<◌, ◌≤◌, ◌≡◌, List, [], ◌++◌, false, ◌^◌, length, take, drop, set, Ok, Err, IfOk}
+use Rattle.std.specs.Borrow.{MutBor}
 use Rattle.error.specs.Answer.{Out, ◌>>=◌}
 use Rattle.bpf.specs.declared.Insn.{Insn}
 use Rattle.ast.specs.declared.LinkType.{LinkType}
@@ -54,11 +55,25 @@ pub record Empty (e : Emitter) : Type 0 where
   pub x_writes : e.x_writes ≡ 0
 
 -- over these lent rows, for this link
-pub record Lent (L : LinkType) (I : List Insn) (Y N : List Patch) (e : Emitter) : Type 0 where
-  pub insns : e.insns.now ≡ I
-  pub won : e.success.patches.now ≡ Y
-  pub lost : e.failure.patches.now ≡ N
+pub record Lent (L : LinkType) (I : MutBor (List Insn)) (Y N : MutBor (List Patch)) (e : Emitter) : Type 0 where
+  pub insns : e.insns.now ≡ I.now
+  pub won : e.success.patches.now ≡ Y.now
+  pub lost : e.failure.patches.now ≡ N.now
   pub link : e.link ≡ L
+  -- what is written goes to the lender
+  pub same_insns : e.insns.ghost_name ≡ I.ghost_name
+  pub same_won : e.success.patches.ghost_name ≡ Y.ghost_name
+  pub same_lost : e.failure.patches.ghost_name ≡ N.ghost_name
+
+-- what stays whatever is added or refused: what is lent, and its lengths, and the link
+pub record Kept (e f : Emitter) : Type 0 where
+  pub same_insns : f.insns.ghost_name ≡ e.insns.ghost_name
+  pub same_won : f.success.patches.ghost_name ≡ e.success.patches.ghost_name
+  pub same_lost : f.failure.patches.ghost_name ≡ e.failure.patches.ghost_name
+  pub row : length f.insns.now ≡ length e.insns.now
+  pub won_room : length f.success.patches.now ≡ length e.success.patches.now
+  pub lost_room : length f.failure.patches.now ≡ length e.failure.patches.now
+  pub link : f.link ≡ e.link
 
 -- the two stacks change places
 pub record Turned (e f : Emitter) : Type 0 where
@@ -71,6 +86,9 @@ pub record Turned (e f : Emitter) : Type 0 where
   pub x_writes : f.x_writes ≡ e.x_writes
   pub facts : f.facts ≡ e.facts
   pub link : f.link ≡ e.link
+  pub same_insns : f.insns.ghost_name ≡ e.insns.ghost_name
+  pub same_won : f.success.patches.ghost_name ≡ e.failure.patches.ghost_name
+  pub same_lost : f.failure.patches.ghost_name ≡ e.success.patches.ghost_name
 
 -- ---- one line
 
@@ -80,13 +98,11 @@ pub record Put (x : Insn) (e f : Emitter) : Type 0 where
   pub count : f.count ≡ e.count + 1
   pub won : waiting f.success ≡ waiting e.success
   pub won_len : f.success.len ≡ e.success.len
-  pub won_room : length f.success.patches.now ≡ length e.success.patches.now
   pub lost : waiting f.failure ≡ waiting e.failure
   pub lost_len : f.failure.len ≡ e.failure.len
-  pub lost_room : length f.failure.patches.now ≡ length e.failure.patches.now
   pub x_writes : f.x_writes ≡ e.x_writes
   pub facts : f.facts ≡ e.facts
-  pub link : f.link ≡ e.link
+  pub kept : Kept e f
 
 -- a jump waits, if its exit is still open
 pub record Waits (x : Exit) (q : Patch) (e f : Emitter) : Type 0 where
@@ -94,13 +110,11 @@ pub record Waits (x : Exit) (q : Patch) (e f : Emitter) : Type 0 where
   pub count : f.count ≡ e.count
   pub won : waiting f.success ≡ waiting e.success ++ pending Success q x []
   pub won_len : f.success.len ≡ e.success.len + length (pending Success q x [])
-  pub won_room : length f.success.patches.now ≡ length e.success.patches.now
   pub lost : waiting f.failure ≡ waiting e.failure ++ pending Failure q x []
   pub lost_len : f.failure.len ≡ e.failure.len + length (pending Failure q x [])
-  pub lost_room : length f.failure.patches.now ≡ length e.failure.patches.now
   pub x_writes : f.x_writes ≡ e.x_writes
   pub facts : f.facts ≡ e.facts
-  pub link : f.link ≡ e.link
+  pub kept : Kept e f
 
 -- ---- blocks
 
@@ -115,11 +129,7 @@ pub record Grew (c : Code) (e f : Emitter) : Type 0 where
   pub won : waiting f.success ≡ waiting e.success ++ patches Success e.count c.block
   pub lost : waiting f.failure ≡ waiting e.failure ++ patches Failure e.count c.block
   pub facts : f.facts ≡ c.facts
-  -- what is lent stays as long, and the link stays
-  pub row : length f.insns.now ≡ length e.insns.now
-  pub won_room : length f.success.patches.now ≡ length e.success.patches.now
-  pub lost_room : length f.failure.patches.now ≡ length e.failure.patches.now
-  pub link : f.link ≡ e.link
+  pub kept : Kept e f
 
 -- a block that learns nothing
 abbrev pub Grows : Block → Emitter → Emitter → Type 0
@@ -134,6 +144,7 @@ Answers (Err r) P (Err q) = q ≡ r
 
 pub record Replies (o : Out Code) (e f : Emitter) (r : Out (Unit {0})) : Type 0 where
   pub is : Answers o (λ c. Grew c e f) r
+  pub kept : Kept e f
 
 -- of a row whose pending jumps are resolved
 pub record Settles (o : Out (List Insn)) (xs : List Insn) (r : Out (Unit {0})) : Type 0 where
@@ -160,14 +171,13 @@ Cut Failure mark e f = (f.success.len ≡ e.success.len) × (f.failure.len ≡ m
 -- what `settle` leaves: the row resolved, or refused
 pub record Settled (s : Side) (mark over : ℕ) (e f : Emitter) (r : Out (Unit {0})) : Type 0 where
   pub row : Settles (resolve (drop mark (waiting (stack_of s e))) (e.count + over) e.insns.now) f.insns.now r
-  pub long : length f.insns.now ≡ length e.insns.now
   pub cut : IfOk r (λ u. Cut s mark e f)
   pub count : f.count ≡ e.count
   pub won : f.success.patches.now ≡ e.success.patches.now
   pub lost : f.failure.patches.now ≡ e.failure.patches.now
   pub x_writes : f.x_writes ≡ e.x_writes
   pub facts : f.facts ≡ e.facts
-  pub link : f.link ≡ e.link
+  pub kept : Kept e f
 
 -- a block that was settled, or refused: its code with these facts
 abbrev pub coded : Facts → Out Block → Out Code
@@ -177,3 +187,4 @@ coded g o = o >>= λ b. Ok (code b g)
 pub record Otherwise (mark : ℕ) (e f : Emitter) (r : Out (Unit {0})) : Type 0 where
   pub of : (b : Block) (d : Emitter) → Grew (code b e.facts) d e → d.failure.len ≡ mark → d.failure.len ≤ length d.failure.patches.now
       → Replies (coded e.facts (resolved (otherwise b))) d f r
+  pub kept : Kept e f

@@ -110,6 +110,7 @@ impl<'a> Stack<'a> {
         requires { self.old.len < length self.old.patches.now }
         ensures len { self.new.len ≡ self.old.len + 1 }
         ensures patches { self.new.patches.now ≡ set self.old.patches.now self.old.len patch }
+        ensures same_reference { self.new.patches.ghost_name ≡ self.old.patches.ghost_name }
     {
         self.patches[self.len] = patch;
         self.len += 1;
@@ -150,7 +151,7 @@ impl<'a> Emitter<'a> {
         failure: &'a mut [Patch],
     ) -> Emitter<'a>
         ensures empty { Empty result }
-        ensures lent { Lent link insns.old success.old failure.old result }
+        ensures lent { Lent link insns.entry success.entry failure.entry result }
         ensures facts { result.facts ≡ no_facts }
     {
         Emitter {
