@@ -40,9 +40,9 @@ module _ (L : LinkType) (et : ℕ) (g : Facts) {e f : Emitter} {r : Out (Unit {0
   ethertype_size d = went_size 2 (ethertype_short L et g) (reply_done h d)
 
   pub ethertype_link : {u : Unit {0}} → r ≡ Ok u → f.link ≡ e.link
-  ethertype_link d = (reply_done h d).grew.link
+  ethertype_link d = (reply_done h d).grew.kept.link
 
-  pub guarded_refused : {q : Refusal} → r ≡ Err q → (b : Block) {k : Emitter} → Replies (guarded L et b g) e k (Err q)
+  pub guarded_refused : {q : Refusal} → r ≡ Err q → (b : Block) → Replies (guarded L et b g) e f (Err q)
   unfolding guarded
   guarded_refused d b = bind_refused h d _
 
@@ -56,7 +56,7 @@ pub ruleset guarding = (ethertype_size, ethertype_link, guarded_refused, guarded
 -- ---- a protocol after it
 
 module _ (L : LinkType) (v : Version) (p : ℕ) (g : Facts) {e f : Emitter} {r : Out (Unit {0})} (h : Replies (emit_ethertype L (ether_of v) g) e f r) where
-  pub l4_refused : {q : Refusal} → r ≡ Err q → {k : Emitter} → Replies (emit_version L v p g) e k (Err q)
+  pub l4_refused : {q : Refusal} → r ≡ Err q → Replies (emit_version L v p g) e f (Err q)
   unfolding emit_l4
   l4_refused d = bind_refused h d _
 
@@ -66,7 +66,7 @@ module _ (L : LinkType) (v : Version) (p : ℕ) (g : Facts) {e f : Emitter} {r :
 
     pub l4_known : holds (proto_fact v f.facts) p ≡ true → Replies (emit_version L v p g) e f (Ok tt)
     unfolding emit_l4
-    l4_known q = rw ((reply_done h d).eq, told q) (record { is = (reply_done h d).grew })
+    l4_known q = rw ((reply_done h d).eq, told q) (answer (reply_done h d).grew)
 
     pub l4_tested : {k : Emitter} {n m : ℕ} → holds (proto_fact v f.facts) p ≡ false → n ≡ net_offset L → m ≡ proto_place v → Grows (check Byte (n + m) p) f k
         → Replies (emit_version L v p g) e (record k { facts = learn_proto v k.facts p }) (Ok tt)
