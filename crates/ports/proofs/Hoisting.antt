@@ -23,7 +23,7 @@ use Rattle.codegen.specs.Emit.{net_offset, ether_proto_offset, Code, code, need,
 use Rattle.emit.specs.declared.Emitter.{Emitter}
 use Rattle.emit.specs.Grown.{Grew, Grows, Replies}
 use Rattle.emit.proofs.Grow.{Sized, sized, none, then}
-use Rattle.emit.proofs.Outcome.{Went, reply_done, after_reply, bind_refused}
+use Rattle.emit.proofs.Outcome.{Went, reply_done, answer, after_reply, bind_refused}
 use Rattle.conditions.specs.declared.Version.{Version}
 use Rattle.conditions.specs.declared.Version.TheVariants.{V4, V6}
 use Rattle.conditions.specs.Loads.{ether_of, proto_fact, header, emit_version}
@@ -93,7 +93,7 @@ prereqs_size L want g h = sized 14 (prereqs_short L want g) h
 pub then_at : {c : Code} {e f k : Emitter} (B : ℕ → Block) → Grew c e f → Grows (B (net_offset f.link)) f k
     → Grew (code (c.block ++ B (net_offset e.link)) c.facts) e k
 then_at {c} {e} {f} {k} B p q =
-    let s = subst (λ (L : LinkType). Grows (B (net_offset L)) f k) p.link q in
+    let s = subst (λ (L : LinkType). Grows (B (net_offset L)) f k) p.kept.link q in
     subst (λ (g : Facts). Grew (code (c.block ++ B (net_offset e.link)) g) e k) p.facts (then p s)
 
 -- the dual path as the code has it
@@ -121,7 +121,7 @@ module _ (L : LinkType) {e f : Emitter} where
 
   pub ports_follow : {k : Option L4Set} {want : L4Set} → k ≡ Some want → Grew (port_prereqs L want e.facts) e f → Follows (hoist_ports L k) e f (Ok tt)
   ports_follow {want = want} q h =
-      rw q (record { on = λ c d p. record { is = then p (subst (λ (g : Facts). Grew (port_prereqs L want g) e f) p.facts h) } })
+      rw q (record { on = λ c d p. answer (then p (subst (λ (g : Facts). Grew (port_prereqs L want g) e f) p.facts h)) })
 
 -- a step's size, by what it adds to nothing
 step_size : {step : Code → Out Code} {e f : Emitter} {r : Out (Unit {0})} {u : Unit {0}} (n : ℕ) → Follows step e f r → All (Short n) (step (code [] e.facts)) → r ≡ Ok u → Sized n e f
@@ -136,14 +136,14 @@ l4_size v n {e} h d = step_size 4 h (known_short e.link 4 n (emit_version e.link
 -- a step after an answer
 follow : {o : Out Code} {d e f : Emitter} {r : Out (Unit {0})} (step : LinkType → Code → Out Code) (w : Went o d e) → Follows (step e.link) e f r
     → Replies (step d.link w.code) d f r
-follow {d = d} {e} {f} {r} step w h = subst (λ (L : LinkType). Replies (step L w.code) d f r) w.grew.link (h.on w.code d w.grew)
+follow {d = d} {e} {f} {r} step w h = subst (λ (L : LinkType). Replies (step L w.code) d f r) w.grew.kept.link (h.on w.code d w.grew)
 
 -- the steps of `or_hoist`, one after another
 module _ (g : GuardSet) {e e₁ : Emitter} {r₁ : Out (Unit {0})} (h₁ : Follows (hoist_ethertype g.ethertype e.link) e e₁ r₁) where
   first : Replies (hoist_ethertype g.ethertype e.link (code [] e.facts)) e e₁ r₁
   first = h₁.on _ e (none e)
 
-  pub first_refused : {q : Refusal} {k : Emitter} → r₁ ≡ Err q → Replies (or_hoist e.link g e.facts) e k (Err q)
+  pub first_refused : {q : Refusal} → r₁ ≡ Err q → Replies (or_hoist e.link g e.facts) e e₁ (Err q)
   unfolding or_hoist
   first_refused d = bind_refused first d _
 
@@ -151,7 +151,7 @@ module _ (g : GuardSet) {e e₁ : Emitter} {r₁ : Out (Unit {0})} (h₁ : Follo
     second : Replies (hoist_l4 V4 g.ip4_proto e.link (reply_done first d₁).code) e e₂ r₂
     second = follow (hoist_l4 V4 g.ip4_proto) (reply_done first d₁) h₂
 
-    pub second_refused : {q : Refusal} {k : Emitter} → r₂ ≡ Err q → Replies (or_hoist e.link g e.facts) e k (Err q)
+    pub second_refused : {q : Refusal} → r₂ ≡ Err q → Replies (or_hoist e.link g e.facts) e e₂ (Err q)
     unfolding or_hoist
     second_refused d = rw (reply_done first d₁).eq (bind_refused second d _)
 
@@ -159,7 +159,7 @@ module _ (g : GuardSet) {e e₁ : Emitter} {r₁ : Out (Unit {0})} (h₁ : Follo
       third : Replies (hoist_l4 V6 g.ip6_nh e.link (reply_done second d₂).code) e e₃ r₃
       third = follow (hoist_l4 V6 g.ip6_nh) (reply_done second d₂) h₃
 
-      pub third_refused : {q : Refusal} {k : Emitter} → r₃ ≡ Err q → Replies (or_hoist e.link g e.facts) e k (Err q)
+      pub third_refused : {q : Refusal} → r₃ ≡ Err q → Replies (or_hoist e.link g e.facts) e e₃ (Err q)
       unfolding or_hoist
       third_refused d = rw ((reply_done first d₁).eq, (reply_done second d₂).eq) (bind_refused third d _)
 
