@@ -23,10 +23,10 @@ use Rattle.codegen.specs.Emit.{Code, emit}
 use Rattle.codegen.specs.Compile.{entry_facts, finished, returns, compile}
 use Rattle.emit.specs.declared.Emitter.{Emitter}
 use Rattle.emit.specs.Lines.{Below, waiting, assembled}
-use Rattle.emit.specs.Grown.{Answers, Empty, Lent, Room, Put, Grew, Replies, Open, stack_of, Settled, coded}
+use Rattle.emit.specs.Grown.{Answers, Empty, Lent, Kept, Room, Put, Grew, Replies, Open, stack_of, Settled, coded}
 use Rattle.emit.proofs.Settling.{Held, before_end, told, settled, below_more}
 use Rattle.emit.proofs.Joins.{Near, settled_near}
-use Rattle.emit.proofs.Grow.{Sized}
+use Rattle.emit.proofs.Grow.{kept_then, Sized}
 use Rattle.codegen.proofs.Shape.{weight}
 use Rattle.reader.specs.Reader.{tree_of}
 use Rattle.guards.specs.declared.Note.{Note}
@@ -71,21 +71,21 @@ module _ {e f : Emitter} {r : Out (Unit {0})} (z : Settled Success 0 0 e f r) (c
   first : Replies (coded e.facts (resolved (settle Success 0 c.block))) d f r
   first = settled g 0 Success (omega (arith, s.success)) (subst (λ (m : ℕ). Settled Success m 0 e f r) (sym s.success) z)
 
-  pub first_refused : {q : Refusal} {k : Emitter} → r ≡ Err q → Compiles (resolved (finished c.block) >>= λ b. Ok (map assemble b ++ returns)) d k (Err q)
+  pub first_refused : {q : Refusal} → r ≡ Err q → Compiles (resolved (finished c.block) >>= λ b. Ok (map assemble b ++ returns)) d f (Err q)
   unfolding finished
   first_refused p =
       let w = refused_is (far (settle Success 0 c.block)) (sym (told g 0 Success (omega (arith, s.success)) (subst (λ (m : ℕ). Settled Success m 0 e f r) (sym s.success) z)) ∙ p) in
-      rw (far_settle Failure 1 (settle Success 0 c.block) w.0, w.1) (record { is = refl })
+      rw (far_settle Failure 1 (settle Success 0 c.block) w.0, w.1) (record { is = refl; kept = kept_then g.kept z.kept })
 
   module _ (p : r ≡ Ok tt) {h : Emitter} {t : Out (Unit {0})} (y : Settled Failure 0 1 f h t) where
     once : Near (settle Success 0 c.block) e.facts d f
     once = settled_near (settle Success 0 c.block) e.facts d f first p
 
-    pub second_refused : {q : Refusal} {k : Emitter} → t ≡ Err q → Compiles (resolved (finished c.block) >>= λ b. Ok (map assemble b ++ returns)) d k (Err q)
+    pub second_refused : {q : Refusal} → t ≡ Err q → Compiles (resolved (finished c.block) >>= λ b. Ok (map assemble b ++ returns)) d h (Err q)
     unfolding finished
     second_refused o =
         let w = refused_is (far (finished c.block)) (sym (told once.grew 1 Failure (omega (arith, s.failure)) (subst (λ (m : ℕ). Settled Failure m 1 f h t) (sym s.failure) y)) ∙ o) in
-        rw (w.0, w.1) (record { is = refl })
+        rw (w.0, w.1) (record { is = refl; kept = kept_then once.grew.kept y.kept })
 
     twice : t ≡ Ok tt → Near (finished c.block) f.facts d h
     unfolding finished
@@ -105,12 +105,10 @@ module _ {e f : Emitter} {r : Out (Unit {0})} (z : Settled Success 0 0 e f r) (c
         let n = twice o in
         let b = finished c.block in
         let m = length-map b assemble in
+        let kept : Kept d j = kept_then n.grew.kept (kept_then u.kept v.kept) in
         rw n.near (record {
           is = record {
-            row =
-                let e₁ = length-set h.insns.now h.count (insn 0x06 0 0 0xffff_ffff) in
-                let e₂ = length-set i.insns.now i.count (insn 0x06 0 0 0) in
-                omega (arith, ap length v.insns, e₂, ap length u.insns, e₁, n.grew.row);
+            row = kept.row;
             count = rw (length-append, m) (omega (arith, v.count, u.count, n.grew.insns, s.count));
             insns = λ k.
                 let e₁ = length-set h.insns.now h.count (insn 0x06 0 0 0xffff_ffff) in
@@ -120,13 +118,25 @@ module _ {e f : Emitter} {r : Out (Unit {0})} (z : Settled Success 0 0 e f r) (c
                 rw (v.count, z, u.count) (take_two h.insns.now h.count (insn 0x06 0 0 0xffff_ffff) (insn 0x06 0 0 0) l
                 ∙ ap (λ (x : List Insn). x ++ returns) (n.grew.lines (omega (arith, l)) ∙ ap (λ (m : ℕ). take m d.insns.now ++ assembled b) s.count));
           };
+          kept = kept;
         })
 
 -- ---- the walk's start
 
 -- e stands over what is lent to d
 abbrev pub Begun : Emitter → Emitter → Type 0
-Begun d e = Lent d.link d.insns.now d.success.patches.now d.failure.patches.now e
+Begun d e = Lent d.link d.insns d.success.patches d.failure.patches e
+
+begun_kept : {d e : Emitter} → Begun d e → Kept d e
+begun_kept l = record {
+  same_insns = l.same_insns;
+  same_won = l.same_won;
+  same_lost = l.same_lost;
+  row = ap length l.insns;
+  won_room = ap length l.won;
+  lost_room = ap length l.lost;
+  link = l.link;
+}
 
 pub begun_room : {s : List ℕ} {M : List Note} {d e : Emitter} → Ready s M d → Empty e → Begun d e → Room (weight (tree_of s 0)) e
 begun_room r z l = record {
@@ -145,12 +155,12 @@ of_row d e f z (Err q) (Err k) h = h
 
 pub compiled : (t : Expr) {d e f : Emitter} {r : Out (Unit {0})} → Begun d e → Compiles (compile e.link t) e f r → Compiles (compile d.link t) d f r
 compiled t {d = d} {e = e} {f = f} {r = r} z h =
-    subst (λ L. Compiles (compile L t) d f r) z.link (record { is = of_row d e f z.insns (compile e.link t) r h.is })
+    subst (λ L. Compiles (compile L t) d f r) z.link (record { is = of_row d e f z.insns (compile e.link t) r h.is; kept = kept_then (begun_kept z) h.kept })
 
 -- from the entry facts
-pub compiled_down : (t : Expr) {e f : Emitter} {q : Refusal} → e.facts ≡ entry_facts e.link → emit e.link t e.facts ≡ Err q → Compiles (compile e.link t) e f (Err q)
+pub compiled_down : (t : Expr) {e f : Emitter} {q : Refusal} → e.facts ≡ entry_facts e.link → emit e.link t e.facts ≡ Err q → Kept e f → Compiles (compile e.link t) e f (Err q)
 unfolding compile
-compiled_down t g h = rw (← g, h) (record { is = refl })
+compiled_down t g h k = rw (← g, h) (record { is = refl; kept = k })
 
 pub compiled_done : (t : Expr) {c : Code} {e f : Emitter} {r : Out (Unit {0})} → e.facts ≡ entry_facts e.link → emit e.link t e.facts ≡ Ok c
     → Compiles (resolved (finished c.block) >>= λ b. Ok (map assemble b ++ returns)) e f r → Compiles (compile e.link t) e f r

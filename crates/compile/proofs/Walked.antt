@@ -18,10 +18,10 @@ use Rattle.codegen.specs.Block.{Block, turn, otherwise, resolved, far}
 use Rattle.codegen.specs.Emit.{Code, code, or_hoist, restored_after, emit}
 use Rattle.codegen.proofs.Shape.{Fits, weight, guards_small, tree_shape, hoist_shape}
 use Rattle.emit.specs.declared.Emitter.{Emitter}
-use Rattle.emit.specs.Grown.{Room, Grew, Turned, Replies, Open, Otherwise, coded, stack_of}
-use Rattle.emit.proofs.Grow.{Sized, sized, knowing}
-use Rattle.emit.proofs.Settling.{opened, refacts, turn_far, turn_grew}
-use Rattle.emit.proofs.Outcome.{Went, reply_done, answer, bind_refused, after, after_reply}
+use Rattle.emit.specs.Grown.{Room, Kept, Grew, Turned, Replies, Open, Otherwise, coded, stack_of}
+use Rattle.emit.proofs.Grow.{kept_then, Sized, sized, knowing}
+use Rattle.emit.proofs.Settling.{opened, refacts, turn_far, turned_kept, turn_grew}
+use Rattle.emit.proofs.Outcome.{Went, reply_done, answer, turned_down, bind_refused, after, after_reply}
 use Rattle.emit.proofs.Joins.{Near, settled_near, settled_far, settled_refused, after_facts, wrote}
 use Rattle.guards.specs.declared.Note.{Note}
 use Rattle.reader.specs.Reader.{tree_of, end_of, Here}
@@ -77,7 +77,7 @@ module _ (L : LinkType) (l r : Expr) (g : Facts) {e f k : Emitter} {q : Out (Uni
   left : Replies (coded f.facts (resolved (otherwise w.code.block))) e k q
   left = o.of w.code.block e (refacts w.grew) refl h
 
-  pub arms_refused : {x : Refusal} {j : Emitter} → q ≡ Err x → Replies (arms L l r g) e j (Err x)
+  pub arms_refused : {x : Refusal} → q ≡ Err x → Replies (arms L l r g) e k (Err x)
   arms_refused p = settled_refused w otherwise f.facts left p (λ c C. emit L r (restored_after c.block g) >>= λ y. Ok (code (C ++ y.block) (meet c.facts y.facts)))
 
   -- the left of an or, settled
@@ -119,27 +119,32 @@ or_done L l r g {e} {f} {k} {q} w h =
     (on_arms c.block (emit L l c.facts) (λ b. resolved (otherwise b.block)) (λ b. emit L r (restored_after b.block c.facts)) (λ b y. meet b.facts y.facts))
     (after_reply (arms L l r c.facts) q w.grew (rw (← w.grew.facts) h)))
 
-pub or_refused : (L : LinkType) (l r : Expr) (g : Facts) {e f : Emitter} {x : Refusal} → or_hoist L (required_guards (Or l r)) g ≡ Err x → Replies (emit L (Or l r) g) e f (Err x)
+pub or_refused : (L : LinkType) (l r : Expr) (g : Facts) {e f : Emitter} {x : Refusal} → or_hoist L (required_guards (Or l r)) g ≡ Err x → Kept e f → Replies (emit L (Or l r) g) e f (Err x)
 unfolding emit required_guards
-or_refused L l r g p = rw p (record { is = refl })
+or_refused L l r g p k = rw p (turned_down k)
 
 -- ---- not: the two stacks change places
+
+-- an answer that is no refusal
+pub done_unless : (r : Out (Unit {0})) → ((q : Refusal) → r ≡ Err q → ⊥) → r ≡ Ok tt
+done_unless (Ok u) h = refl
+done_unless (Err q) h = absurd (h q refl)
 
 module _ (L : LinkType) (t : Expr) (g : Facts) {d e f k : Emitter} {q : Out (Unit {0})} (p : Turned d e) (w : Went (emit L t g) e f) (o : Otherwise e.failure.len f k q)
     (h : e.failure.len ≤ length e.failure.patches.now) where
   inner : Replies (coded f.facts (resolved (otherwise w.code.block))) e k q
   inner = o.of w.code.block e (refacts w.grew) refl h
 
-  pub not_refused : {x : Refusal} {j : Emitter} → q ≡ Err x → Replies (emit L (Not t) g) d j (Err x)
+  pub not_refused : {x : Refusal} {j : Emitter} → q ≡ Err x → Turned k j → Replies (emit L (Not t) g) d j (Err x)
   unfolding emit
-  not_refused y = rw w.eq (turned_refused (otherwise w.code.block) (settled_far (otherwise w.code.block) f.facts e k inner y))
+  not_refused y r = rw w.eq (turned_refused (otherwise w.code.block) (settled_far (otherwise w.code.block) f.facts e k inner y) (turned_kept p (kept_then w.grew.kept o.kept) r))
     where
-      turned_refused : (b : Block) {x : Refusal} {j : Emitter} → resolved b ≡ Err x → Replies (resolved (turn b) >>= λ b'. Ok (code b' (restored_after w.code.block g))) d j (Err x)
-      turned_refused b {x} {j} y = rw (turn_far b) (by (far b) y)
+      turned_refused : (b : Block) {x : Refusal} {j : Emitter} → resolved b ≡ Err x → Kept d j → Replies (resolved (turn b) >>= λ b'. Ok (code b' (restored_after w.code.block g))) d j (Err x)
+      turned_refused b {x} {j} y s = rw (turn_far b) (by (far b) y)
         where
           by : (z : Bool) → ◌≡◌ {A = Out Block} (cond z (Err FarJump) (Ok b)) (Err x)
               → Replies (cond z (Err FarJump) (Ok (turn b)) >>= λ b'. Ok (code b' (restored_after w.code.block g))) d j (Err x)
-          by true h = record { is = cc }
+          by true h = record { is = cc; kept = s }
           by false h = cc
 
   pub not_done : {u : Unit {0}} {j : Emitter} {wrote_x : Bool} → q ≡ Ok u → Turned k j → wrote_x ≡ not (eqb f.x_writes d.x_writes)
@@ -175,7 +180,7 @@ module _ {join : Expr → Expr → Expr} {s : List ℕ} {M : List Note} {i : ℕ
 -- ---- the right side of an or, whose facts meet those of the left
 
 module _ {L M : LinkType} {t u : Expr} {g h : Facts} (m : Facts) {e f : Emitter} {r : Out (Unit {0})} (a : L ≡ M) (b : t ≡ u) (c : g ≡ h) (x : Replies (emit L t g) e f r) where
-  pub right_refused : {q : Refusal} {k : Emitter} → r ≡ Err q → Replies (right_of M u m h) e k (Err q)
+  pub right_refused : {q : Refusal} → r ≡ Err q → Replies (right_of M u m h) e f (Err q)
   right_refused p = bind_refused (emitted a b c x) p _
 
   pub right_done : {v : Unit {0}} {n : Facts} → r ≡ Ok v → n ≡ meet m f.facts → Replies (right_of M u m h) e (record f { facts = n }) (Ok tt)

@@ -14,7 +14,7 @@ use Rattle.codegen.specs.Compile.{finished, returns}
 use Rattle.codegen.proofs.Shape.{weight}
 use Rattle.emit.specs.declared.Emitter.{Emitter}
 use Rattle.emit.specs.Lines.{Below, waiting}
-use Rattle.emit.specs.Grown.{Empty, Grew, Answers}
+use Rattle.emit.specs.Grown.{Empty, Kept, Grew, Answers}
 use Rattle.reader.specs.Reader.{Here, tree_of}
 use Rattle.guards.specs.declared.Note.{Note}
 use Rattle.guards.specs.Notes.{Noted}
@@ -53,9 +53,10 @@ pub record Holds (p : List Insn) (d e : Emitter) : Type 0 where
   pub count : e.count ≡ length p
   pub insns : e.count ≤ length e.insns.now → take e.count e.insns.now ≡ p
 
--- or a refusal
+-- or a refusal; what is lent stays
 pub record Compiles (o : Out (List Insn)) (d e : Emitter) (r : Out (Unit {0})) : Type 0 where
   pub is : Answers o (λ p. Holds p d e) r
+  pub kept : Kept d e
 
 -- places for the two returns, and pending jumps before them
 pub record Ended (e : Emitter) : Type 0 where

@@ -95,7 +95,7 @@ impl<'a> Noted<'a> {
         Ok(())
     }
 
-    // The inner failures are the successes here, so the two stacks change places.
+    // The inner failures are the successes here, so the two stacks change places. They change back on a refusal too: each keeps its row.
     #[cycle(emission)]
     fn emit_not(self, i: usize, e: &mut Emitter<'_>) -> Result<(), Refusal>
         requires walk { W.Walk self.tree.now self.notes.now i }
@@ -107,10 +107,14 @@ impl<'a> Noted<'a> {
         let x_writes = e.x_writes;
         e.turn();
         let mark = e.failure.len;
-        self.emit_expr(i + 1, e)?;
+        if let Err(refusal) = self.emit_expr(i + 1, e) {
+            e.turn();
+            return Err(refusal);
+        }
         let wrote_x = e.x_writes != x_writes;
-        e.otherwise(mark)?;
+        let settled = e.otherwise(mark);
         e.turn();
+        settled?;
         e.facts = facts.restored(wrote_x);
         Ok(())
     }
@@ -165,7 +169,7 @@ fn note_joins(tree: &[u8], notes: &mut [Note])
 // Nothing is added yet, and what the link type tells holds.
 fn begin(e: &mut Emitter<'_>)
     ensures empty { Empty e.new }
-    ensures lent { Lent e.old.link e.old.insns.now e.old.success.patches.now e.old.failure.patches.now e.new }
+    ensures lent { Lent e.old.link e.old.insns e.old.success.patches e.old.failure.patches e.new }
     ensures facts { e.new.facts ≡ C.entry_facts e.new.link }
 {
     e.count = 0;

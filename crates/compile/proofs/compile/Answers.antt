@@ -11,7 +11,7 @@ emit_expr-requires-clause-room c = begun_room c.requires c.begin.ensures.empty c
 pub returns-in_err-emit_expr : goal.returns-in_err-emit_expr
 returns-in_err-emit_expr c =
     let p = err_from_is_err_and c.from_residual.result c.from_residual.ensures.1 in
-    rw (p.1, p.2) (compiled (tree_of c.args.tree.now 0) c.begin.ensures.lent (compiled_down (tree_of c.args.tree.now 0) c.begin.ensures.facts (reply_refused c.emit_expr.ensures c.in_err-emit_expr.was)))
+    rw (p.1, p.2) (compiled (tree_of c.args.tree.now 0) c.begin.ensures.lent (compiled_down (tree_of c.args.tree.now 0) c.begin.ensures.facts (reply_refused c.emit_expr.ensures c.in_err-emit_expr.was) c.emit_expr.ensures.kept))
 
 pub finish-requires : goal.finish-requires
 finish-requires c =

@@ -6,12 +6,12 @@ use Rattle.codegen.specs.Emit.{emit}
 use Rattle.codegen.proofs.Semantics.{length_settle}
 use Rattle.codegen.proofs.Shape.{weight}
 use Rattle.emit.proofs.Grow.{sized, room_left, room_out}
-use Rattle.emit.proofs.Settling.{settled, otherwise_size}
+use Rattle.emit.proofs.Settling.{settled, otherwise_size, turned_kept}
 use Rattle.emit.proofs.Outcome.{reply_done, reply_refused, handed_on, bind_refused, turned_down}
 use Rattle.emit.proofs.Joins.{settled_near, settled_then, settled_refused}
 use Rattle.reader.specs.Reader.{tree_of, end_of}
 use Rattle.reader.proofs.Here.{here_and, here_or, here_not, here_leaf}
-use Rattle.compile.proofs.Walked.{and_left, and_right, or_left, or_right, not_part, tree_length, tree_sized, hoist_sized, room_open, arms_refused, arms_left, arms_done, turned_room, turned_emit, or_done, or_refused, not_refused, not_done, emitted, right_refused, right_done, arms_by, noted_end, noted_guards}
+use Rattle.compile.proofs.Walked.{and_left, and_right, or_left, or_right, not_part, tree_length, tree_sized, hoist_sized, room_open, arms_refused, arms_left, arms_done, turned_room, turned_emit, or_done, or_refused, not_refused, not_done, emitted, right_refused, right_done, arms_by, noted_end, noted_guards, done_unless}
 use Rattle.compile.proofs.Noted.+emission.Goals as goal
 
 -- ---- and
@@ -64,7 +64,7 @@ emit_and-returns t c =
     let d = settled w.grew 0 Success (omega (arith, c.requires.room.successes)) c.settle.ensures in
     rw p.tree
     (settled_then w (settle Success 0) _ d c.in_ok-settle.was (λ b. emit a.e.now.link (tree_of a.self.tree.now (end_of a.self.tree.now (a.i + 1))) b.facts)
-    (emitted (c.settle.ensures.link ∙ w.grew.link) (ap (tree_of a.self.tree.now) (noted_end v p)) (c.settle.ensures.facts ∙ w.grew.facts) c.emit_expr-2.ensures))
+    (emitted (c.settle.ensures.kept.link ∙ w.grew.kept.link) (ap (tree_of a.self.tree.now) (noted_end v p)) (c.settle.ensures.facts ∙ w.grew.facts) c.emit_expr-2.ensures))
 
 -- ---- or
 
@@ -73,7 +73,7 @@ emit_or-returns-in_err-emit_or_hoist t c =
     let a = c.args in
     let p = c.requires.parts in
     let g = noted_guards c.requires.walk p ∙ ap required_guards p.tree in
-    handed_on c.from_residual.ensures.1 (rw p.tree (or_refused a.e.now.link _ _ a.e.now.facts (reply_refused (rw g at c.emit_or_hoist.ensures) c.in_err-emit_or_hoist.was)))
+    handed_on c.from_residual.ensures.1 (rw p.tree (or_refused a.e.now.link _ _ a.e.now.facts (reply_refused (rw g at c.emit_or_hoist.ensures) c.in_err-emit_or_hoist.was) c.emit_or_hoist.ensures.kept))
 
 pub emit_or-emit_arms-requires : goal.emit_or-emit_arms-requires
 emit_or-emit_arms-requires t c =
@@ -90,7 +90,7 @@ emit_or-returns t c =
     let p = c.requires.parts in
     let g = noted_guards c.requires.walk p ∙ ap required_guards p.tree in
     let w = reply_done (rw g at c.emit_or_hoist.ensures) c.in_ok-emit_or_hoist.was in
-    rw p.tree (or_done a.e.now.link _ _ a.e.now.facts w (arms_by _ _ _ w.grew.link c.emit_arms.ensures))
+    rw p.tree (or_done a.e.now.link _ _ a.e.now.facts w (arms_by _ _ _ w.grew.kept.link c.emit_arms.ensures))
 
 -- ---- the arms of an or
 
@@ -139,7 +139,7 @@ emit_arms-returns-in_err-emit_expr-2 t c =
     let n = arms_left a.e.now.link _ r a.e.now.facts w c.otherwise.ensures h c.in_ok-otherwise.was in
     handed_on c.from_residual-in_err-emit_expr-2.ensures.1
     (arms_done a.e.now.link _ r a.e.now.facts w c.otherwise.ensures h c.in_ok-otherwise.was c.restored-e.ensures
-    (right_refused c.emit_expr.new.e.facts n.grew.link (ap (tree_of a.self.tree.now) (noted_end v p)) refl c.emit_expr-2.ensures c.in_err-emit_expr-2.was))
+    (right_refused c.emit_expr.new.e.facts n.grew.kept.link (ap (tree_of a.self.tree.now) (noted_end v p)) refl c.emit_expr-2.ensures c.in_err-emit_expr-2.was))
 
 pub emit_arms-returns : goal.emit_arms-returns
 emit_arms-returns t c =
@@ -151,49 +151,51 @@ emit_arms-returns t c =
     let h : a.e.now.failure.len ≤ length a.e.now.failure.patches.now = omega (arith, c.requires.room.failures) in
     let n = arms_left a.e.now.link _ r a.e.now.facts w c.otherwise.ensures h c.in_ok-otherwise.was in
     arms_done a.e.now.link _ r a.e.now.facts w c.otherwise.ensures h c.in_ok-otherwise.was c.restored-e.ensures
-    (right_done c.emit_expr.new.e.facts n.grew.link (ap (tree_of a.self.tree.now) (noted_end v p)) refl c.emit_expr-2.ensures c.in_ok-emit_expr-2.was c.meet-e.ensures)
+    (right_done c.emit_expr.new.e.facts n.grew.kept.link (ap (tree_of a.self.tree.now) (noted_end v p)) refl c.emit_expr-2.ensures c.in_ok-emit_expr-2.was c.meet-e.ensures)
 
 -- ---- not
 
-pub emit_not-returns-in_err-emit_expr : goal.emit_not-returns-in_err-emit_expr
+pub emit_not-returns-in-Err : goal.emit_not-returns-in-Err
 unfolding emit
-emit_not-returns-in_err-emit_expr t c =
+emit_not-returns-in-Err t c =
     let a = c.args in
-    handed_on c.from_residual.ensures.1 (rw (c.requires.part.tree, reply_refused (turned_emit (tree_of a.self.tree.now (a.i + 1)) c.turn.ensures c.emit_expr.ensures) c.in_err-emit_expr.was) (turned_down _ _))
+    let h = turned_emit (tree_of a.self.tree.now (a.i + 1)) c.turn.ensures c.emit_expr.ensures in
+    rw (c.requires.part.tree, reply_refused h c.in-Err.is) (turned_down (turned_kept c.turn.ensures h.kept c.turn-in-Err.ensures))
 
-pub emit_not-otherwise-requires-clause-room : goal.emit_not-otherwise-requires-clause-room
-emit_not-otherwise-requires-clause-room t c =
+pub emit_not-otherwise-settled-requires-clause-room : goal.emit_not-otherwise-settled-requires-clause-room
+emit_not-otherwise-settled-requires-clause-room t c =
     let a = c.args in
     let v = c.requires.walk in
     let p = c.requires.part in
-    let w = reply_done c.emit_expr.ensures c.in_ok-emit_expr.was in
+    let w = reply_done c.emit_expr.ensures (done_unless _ c.in_default.not-Err) in
     let s = ap weight p.tree in
     room_out (room_left (weight (tree_of a.self.tree.now (a.i + 1))) (omega (arith, s)) (turned_room c.turn.ensures c.requires.room) (tree_sized _ _ _ (not_part v p).proper w))
 
-pub emit_not-otherwise-requires-clause-open : goal.emit_not-otherwise-requires-clause-open
-emit_not-otherwise-requires-clause-open t c =
+pub emit_not-otherwise-settled-requires-clause-open : goal.emit_not-otherwise-settled-requires-clause-open
+emit_not-otherwise-settled-requires-clause-open t c =
     let a = c.args in
     let v = c.requires.walk in
     let p = c.requires.part in
-    let w = reply_done c.emit_expr.ensures c.in_ok-emit_expr.was in
+    let w = reply_done c.emit_expr.ensures (done_unless _ c.in_default.not-Err) in
     let s = ap weight p.tree in
     let y = turned_room c.turn.ensures c.requires.room in
     room_open Failure w.grew y (room_left (weight (tree_of a.self.tree.now (a.i + 1))) {k = 1} (omega (arith, s)) y (tree_sized _ _ _ (not_part v p).proper w))
 
-pub emit_not-returns-in_err-otherwise : goal.emit_not-returns-in_err-otherwise
-emit_not-returns-in_err-otherwise t c =
+pub emit_not-returns-in_err-settled : goal.emit_not-returns-in_err-settled
+emit_not-returns-in_err-settled t c =
     let a = c.args in
     let y = turned_room c.turn.ensures c.requires.room in
-    let w = reply_done (turned_emit (tree_of a.self.tree.now (a.i + 1)) c.turn.ensures c.emit_expr.ensures) c.in_ok-emit_expr.was in
-    handed_on c.from_residual-in_err-otherwise.ensures.1 (rw c.requires.part.tree (not_refused a.e.now.link _ a.e.now.facts c.turn.ensures w c.otherwise.ensures (omega (arith, y.failures)) c.in_err-otherwise.was))
+    let w = reply_done (turned_emit (tree_of a.self.tree.now (a.i + 1)) c.turn.ensures c.emit_expr.ensures) (done_unless _ c.in_default.not-Err) in
+    handed_on c.from_residual.ensures.1
+    (rw c.requires.part.tree (not_refused a.e.now.link _ a.e.now.facts c.turn.ensures w c.otherwise-settled.ensures (omega (arith, y.failures)) c.in_err-settled.was c.turn-2.ensures))
 
 pub emit_not-returns : goal.emit_not-returns
 emit_not-returns t c =
     let a = c.args in
     let y = turned_room c.turn.ensures c.requires.room in
-    let w = reply_done (turned_emit (tree_of a.self.tree.now (a.i + 1)) c.turn.ensures c.emit_expr.ensures) c.in_ok-emit_expr.was in
+    let w = reply_done (turned_emit (tree_of a.self.tree.now (a.i + 1)) c.turn.ensures c.emit_expr.ensures) (done_unless _ c.in_default.not-Err) in
     rw (c.requires.part.tree, c.restored-e.ensures)
-    (not_done a.e.now.link _ a.e.now.facts c.turn.ensures w c.otherwise.ensures (omega (arith, y.failures)) c.in_ok-otherwise.was c.turn-2.ensures refl)
+    (not_done a.e.now.link _ a.e.now.facts c.turn.ensures w c.otherwise-settled.ensures (omega (arith, y.failures)) c.in_ok-settled.was c.turn-2.ensures refl)
 
 -- ---- by the record
 
