@@ -179,6 +179,8 @@ impl<'a> Packet<'a> {
     // ---- hosts and nets
 
     // An IPv4 net: source and destination under its mask. A host is one under the whole mask.
+    // Inlined, so that a host is compared without its mask.
+    #[inline(always)]
     #[tactic(auto, unfolding(direct::specs::Reading::reads_primitive))]
     fn net4(self, d: Dir, a: u32, mask: u32) -> bool
         ensures { result ≡ R.reads_primitive self.entry.link self.entry.frame.now (Net d a mask) }
