@@ -1,5 +1,6 @@
 -- What was compiled, as `generate` promises it, and arrays that are long enough.
 use Rattle.std.specs.Prelude.{Ok, Err}
+use Rattle.std.specs.Borrow.{MutBor}
 use Prim.Native.Nat.{ℕ, zero, suc, ◌+◌, ◌-◌, ◌*◌, ◌/◌, ◌≤◌, ◌<◌}
 use mathlib.Core.Path.{◌≡◌, refl, sym, ap, ◌∙◌, subst}
 use mathlib.Core.List.{List, ◌++◌, map}
@@ -120,8 +121,8 @@ suffices {s} most c few m y i cap a b d =
     record { notes = λ k. omega (arith, m (omega arith)); jumps = omega arith; places = omega arith; lines = λ k. omega arith; few = (a, b, d) }
 
 -- an emitter over arrays that suffice
-pub ready : {L : LinkType} {s : List ℕ} {M : List Note} {I : List Insn} {Y N : List Patch} {n l j lent : ℕ} {e : Emitter} → Stands s → Suffices s n l j lent
-    → length M ≡ n → length Y ≡ j → length N ≡ j → Lent L I Y N e → Ready s M e
+pub ready : {L : LinkType} {s : List ℕ} {M : List Note} {I : MutBor (List Insn)} {Y N : MutBor (List Patch)} {n l j lent : ℕ} {e : Emitter} → Stands s → Suffices s n l j lent
+    → length M ≡ n → length Y.now ≡ j → length N.now ≡ j → Lent L I Y N e → Ready s M e
 ready c z m y k h = record {
   noting = record { here = c.here; notes = λ w. omega (arith, z.notes w, m) };
   proper = c.proper;
