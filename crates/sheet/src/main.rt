@@ -1,7 +1,7 @@
 // The commissioning sheet, executed: each of its sentences with `ok`, or with what differs.
 #![tactic(auto)]
 
-ghost use Rattle.std.specs.Prelude.{◌≤◌, length};
+ghost use Rattle.std.specs.Prelude.{◌≡◌, ◌+◌, ◌≤◌, length};
 
 use std::alloc::Global;
 use std::io;
@@ -188,6 +188,8 @@ impl<W: Write> Sheet<W> {
     // Begins a line, with what a tree's build gives.
     fn line(&mut self, sentence: &str, link: Link, records: &[Record]) -> io::Result<Built>
         requires { length records.now ≤ 128 }
+        ensures lines { self.new.lines ≡ self.old.lines }
+        ensures differing { self.new.differing ≡ self.old.differing }
     {
         write!(self.out, "{sentence}: ")?;
         self.is_good = true;
@@ -197,7 +199,11 @@ impl<W: Write> Sheet<W> {
         Ok(Built { answer, program })
     }
 
-    fn end(&mut self) -> io::Result<()> {
+    // Ends a line, which differs at most once.
+    fn end(&mut self) -> io::Result<()>
+        ensures lines { self.new.lines ≤ self.old.lines + 1 }
+        ensures differing { self.new.differing ≤ self.old.differing + 1 }
+    {
         self.lines = self.lines.saturating_add(1);
         if self.is_good {
             return write!(self.out, "ok\n");
@@ -207,7 +213,10 @@ impl<W: Write> Sheet<W> {
     }
 
     // Where a number is not the one that is wanted, it is named.
-    fn same(&mut self, what: &str, here: u32, wanted: u32) -> io::Result<()> {
+    fn same(&mut self, what: &str, here: u32, wanted: u32) -> io::Result<()>
+        ensures lines { self.new.lines ≡ self.old.lines }
+        ensures differing { self.new.differing ≡ self.old.differing }
+    {
         if here == wanted {
             return Ok(());
         }
@@ -216,19 +225,28 @@ impl<W: Write> Sheet<W> {
     }
 
     // The same for the answer of a build: a count, or a refusal.
-    fn count_is(&mut self, built: &Built, count: u32) -> io::Result<()> {
+    fn count_is(&mut self, built: &Built, count: u32) -> io::Result<()>
+        ensures lines { self.new.lines ≡ self.old.lines }
+        ensures differing { self.new.differing ≡ self.old.differing }
+    {
         self.same("the refusal", built.answer / 65536, 0)?;
         self.same("the count", built.answer % 65536, count)
     }
 
     // And of a run: the verdict's number and the steps.
-    fn run_is(&mut self, ran: u32, verdict: Verdict, steps: u32) -> io::Result<()> {
+    fn run_is(&mut self, ran: u32, verdict: Verdict, steps: u32) -> io::Result<()>
+        ensures lines { self.new.lines ≡ self.old.lines }
+        ensures differing { self.new.differing ≡ self.old.differing }
+    {
         self.same("the verdict", ran / 65536, verdict as u32)?;
         self.same("the steps", ran % 65536, steps)
     }
 
     // And of an instruction: its code and k, jt, jf.
-    fn insn_is(&mut self, built: &Built, i: usize, code: u32, k: u32) -> io::Result<()> {
+    fn insn_is(&mut self, built: &Built, i: usize, code: u32, k: u32) -> io::Result<()>
+        ensures lines { self.new.lines ≡ self.old.lines }
+        ensures differing { self.new.differing ≡ self.old.differing }
+    {
         let insn = built.insn(i);
         self.same("a code", insn.code, code)?;
         self.same("a k", insn.k, k)
@@ -243,6 +261,8 @@ impl<W: Write> Sheet<W> {
         refusal: Refusal,
     ) -> io::Result<()>
         requires { length records.now ≤ 128 }
+        ensures lines { self.new.lines ≤ self.old.lines + 1 }
+        ensures differing { self.new.differing ≤ self.old.differing + 1 }
     {
         let built = self.line(sentence, link, records)?;
         self.same("the refusal", built.answer / 65536, refusal as u32)?;
@@ -251,7 +271,10 @@ impl<W: Write> Sheet<W> {
 
     // ---- its lines
 
-    fn ip(&mut self) -> io::Result<()> {
+    fn ip(&mut self) -> io::Result<()>
+        ensures lines { self.new.lines ≤ self.old.lines + 2 }
+        ensures differing { self.new.differing ≤ self.old.differing + 2 }
+    {
         let ip = [of_protocol(Protocol::Ip)];
         let built = self.line("RawIp, Ip: two returns", Link::RawIp, &ip)?;
         self.count_is(&built, 2)?;
@@ -272,14 +295,20 @@ impl<W: Write> Sheet<W> {
         frame: &[u8],
         verdict: Verdict,
         steps: u32,
-    ) -> io::Result<()> {
+    ) -> io::Result<()>
+        ensures lines { self.new.lines ≤ self.old.lines + 1 }
+        ensures differing { self.new.differing ≤ self.old.differing + 1 }
+    {
         let built = self.line(sentence, Link::Ethernet, &[of_protocol(Protocol::Ip)])?;
         self.count_is(&built, 4)?;
         self.run_is(built.ran(4, frame), verdict, steps)?;
         self.end()
     }
 
-    fn ip_on_frames(&mut self) -> io::Result<()> {
+    fn ip_on_frames(&mut self) -> io::Result<()>
+        ensures lines { self.new.lines ≤ self.old.lines + 2 }
+        ensures differing { self.new.differing ≤ self.old.differing + 2 }
+    {
         let sentence = "Ethernet, Ip, on 13 bytes: short after 1 step";
         self.ip_on(sentence, &[0; 13], Verdict::Short, 1)?;
         let sentence = "Ethernet, Ip, on 14 bytes ending 08 00: accepted after 3";
@@ -287,7 +316,10 @@ impl<W: Write> Sheet<W> {
         self.ip_on(sentence, &frame, Verdict::Accepted, 3)
     }
 
-    fn tcp_or_udp(&mut self) -> io::Result<()> {
+    fn tcp_or_udp(&mut self) -> io::Result<()>
+        ensures lines { self.new.lines ≤ self.old.lines + 1 }
+        ensures differing { self.new.differing ≤ self.old.differing + 1 }
+    {
         let sentence = "Tcp or Udp: nine; jf 6, 1, 1 at 1, 3, 6; ja 2 at 4";
         let records = [
             plain(Kind::Or),
@@ -303,7 +335,10 @@ impl<W: Write> Sheet<W> {
         self.end()
     }
 
-    fn web(&mut self) -> io::Result<()> {
+    fn web(&mut self) -> io::Result<()>
+        ensures lines { self.new.lines ≤ self.old.lines + 1 }
+        ensures differing { self.new.differing ≤ self.old.differing + 1 }
+    {
         let sentence = "Tcp and Tcp destination port 80: eleven; jf 8, 6, 1 at 1, 3, 8; jt 4 at 5";
         let records = [
             plain(Kind::And),
@@ -319,7 +354,10 @@ impl<W: Write> Sheet<W> {
         self.end()
     }
 
-    fn port_53(&mut self) -> io::Result<()> {
+    fn port_53(&mut self) -> io::Result<()>
+        ensures lines { self.new.lines ≤ self.old.lines + 1 }
+        ensures differing { self.new.differing ≤ self.old.differing + 1 }
+    {
         let records = [port(Direction::Either, Protocol::None, 53)];
         let sentence = "Port 53, none, either: twenty; jt 8 at 1";
         let built = self.line(sentence, Link::Ethernet, &records)?;
@@ -328,14 +366,20 @@ impl<W: Write> Sheet<W> {
         self.end()
     }
 
-    fn prefix_0(&mut self) -> io::Result<()> {
+    fn prefix_0(&mut self) -> io::Result<()>
+        ensures lines { self.new.lines ≤ self.old.lines + 1 }
+        ensures differing { self.new.differing ≤ self.old.differing + 1 }
+    {
         let sentence = "IPv6 net, prefix 0, either: five";
         let built = self.line(sentence, Link::Ethernet, &[plain(Kind::Net6)])?;
         self.count_is(&built, 5)?;
         self.end()
     }
 
-    fn refusals(&mut self) -> io::Result<()> {
+    fn refusals(&mut self) -> io::Result<()>
+        ensures lines { self.new.lines ≤ self.old.lines + 4 }
+        ensures differing { self.new.differing ≤ self.old.differing + 4 }
+    {
         let ip6 = [of_protocol(Protocol::Ip6)];
         let icmp_port = port(Direction::Either, Protocol::Icmp, 53);
         let clash = [
@@ -364,7 +408,10 @@ impl<W: Write> Sheet<W> {
     }
 
     // At distance 255 the first test jumps to the last return: 258 instructions.
-    fn distances(&mut self) -> io::Result<()> {
+    fn distances(&mut self) -> io::Result<()>
+        ensures lines { self.new.lines ≤ self.old.lines + 2 }
+        ensures differing { self.new.differing ≤ self.old.differing + 2 }
+    {
         let sentence =
             "Seven ether multicasts, an IPv6 source host, seven IPv6 hosts in both, joined by and from the left: distance 255, accepted";
         let built = self.line(sentence, Link::Ethernet, &far(Direction::Both))?;
