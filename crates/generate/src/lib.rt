@@ -35,6 +35,15 @@ const SMALL_LINES: usize = 226;
 
 const SMALL_JUMPS: usize = 224;
 
+// These are for at most 16 records.
+const MEDIUM_FILE: usize = 392;
+
+const MEDIUM_NOTES: usize = 16;
+
+const MEDIUM_LINES: usize = 474;
+
+const MEDIUM_JUMPS: usize = 472;
+
 // These are for at most 32 records.
 const MIDDLE_FILE: usize = 776;
 
@@ -63,6 +72,8 @@ const NO_PATCH: Patch = Patch::Jt(0);
 
 // The program in arrays of these lengths.
 // The clause and the three parameters are the public function's, which two steps hand on.
+// Not inlined, so that a call takes the stack of its own arrays, and not that of the largest.
+#[inline(never)]
 fn generate_in<const NOTES: usize, const LINES: usize, const JUMPS: usize>(
     tree: &[u8],
     link: LinkType,
@@ -116,6 +127,8 @@ pub fn generate(tree: &[u8], link: LinkType, part: &mut [u8]) -> Result<usize, R
         generate_by::<TINY_NOTES, TINY_LINES, TINY_JUMPS>(tree, link, part)
     } else if tree.len() <= SMALL_FILE {
         generate_by::<SMALL_NOTES, SMALL_LINES, SMALL_JUMPS>(tree, link, part)
+    } else if tree.len() <= MEDIUM_FILE {
+        generate_by::<MEDIUM_NOTES, MEDIUM_LINES, MEDIUM_JUMPS>(tree, link, part)
     } else if tree.len() <= MIDDLE_FILE {
         generate_by::<MIDDLE_NOTES, MIDDLE_LINES, MIDDLE_JUMPS>(tree, link, part)
     } else {
