@@ -1,11 +1,12 @@
 // A program's listing: document 01's, those of `tcpdump -d` and `-dd`, and the line that tc and iptables take.
 #![tactic(auto)]
 
-ghost use Rattle.std.specs.Prelude.{◌+◌, ◌≤◌, ◌≡◌, length};
+ghost use Rattle.std.specs.Prelude.{◌+◌, ◌≤◌, ◌≡◌, length, OnOk};
 
 use bpf::Insn;
-use std::fmt;
 use std::fmt::{Display, Formatter, Write};
+use std::io::Print;
+use std::{fmt, io};
 
 // How a program is listed.
 // Four forms of one listing, chosen by a word of the command: an enum shows all four at each step.
@@ -134,6 +135,62 @@ impl Display for Words {
     }
 }
 
+// ---- pages
+
+// What is printed is gathered here and written when little room is left.
+#[derive(Drop)]
+struct Page {
+    bytes: [u8; 4096],
+    length: usize,
+}
+
+// Up to here the page has room for a line, which takes at most 128 bytes.
+const ROOMY: usize = 3968;
+
+impl Page {
+    fn new() -> Page
+        ensures { result.length ≡ 0 }
+    {
+        Page {
+            bytes: [0; 4096],
+            length: 0,
+        }
+    }
+
+    fn flush<P: Print>(&mut self, to: &P) -> io::Result<()>
+        ensures { OnOk result (self.new.length ≡ 0) }
+    {
+        let all = &self.bytes[..];
+        to.write_all(all.get(..self.length).unwrap_or(all))?;
+        self.length = 0;
+        Ok(())
+    }
+
+    // Writes what is gathered where a line behind it may have no room.
+    fn make_room<P: Print>(&mut self, to: &P) -> io::Result<()>
+        ensures { OnOk result (self.new.length + 128 ≤ 4096) }
+    {
+        if self.length > ROOMY {
+            return self.flush(to);
+        }
+        Ok(())
+    }
+}
+
+impl Write for Page {
+    fn write_str(&mut self, s: &str) -> fmt::Result {
+        let text = s.as_bytes();
+        let length = self.length;
+        if length > 4096 || text.len() > 4096 - length {
+            return Err(fmt::Error);
+        }
+        let end = length + text.len();
+        self.bytes[length..end].copy_from_slice(text);
+        self.length = end;
+        Ok(())
+    }
+}
+
 // ---- the lines
 
 impl Listing<'_> {
@@ -162,6 +219,27 @@ impl Listing<'_> {
             Form::Bytecode => write!(f, "\n"),
             Form::Numbers | Form::Words | Form::Rows => Ok(()),
         }
+    }
+
+    // Gathers an instruction's line.
+    fn gather(&self, page: &mut Page, index: u64, insn: Insn) -> fmt::Result
+        requires { page.old.length + 128 ≤ 4096 }
+    {
+        self.put_insn(&mut Formatter::new(page), index, insn)
+    }
+
+    // Prints the listing in pages of whole lines: a short one is written at once, so that a reader has all of it or nothing.
+    pub fn print_to<P: Print>(&self, to: &P) -> io::Result<()> {
+        let mut page = Page::new();
+        self.put_count(&mut Formatter::new(&mut page))?;
+        let insns = self.program.chunks_exact(8);
+        for (index, bytes) in insns.enumerate() {
+            page.make_room(to)?;
+            self.gather(&mut page, index as u64, bpf::insn_at(bytes, 0))?;
+        }
+        page.make_room(to)?;
+        self.put_end(&mut Formatter::new(&mut page))?;
+        page.flush(to)
     }
 }
 
