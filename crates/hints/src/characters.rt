@@ -12,15 +12,24 @@ pub struct Characters<'a> {
     at: usize,
 }
 
-// The first character, and how many bytes it has.
+// The character as it is shown.
+fn shown(c: char) -> char {
+    if c.is_control() { '?' } else { c }
+}
+
+// The first character, and how many bytes it has. Most are of one byte, which tells that.
 fn first(text: &[u8]) -> (char, usize)
     requires { 0 < length text.now }
     ensures { (0 < result.1) × (result.1 ≤ length text.now) }
 {
+    let byte = text[0];
+    if byte.is_ascii() {
+        return (shown(char::from(byte)), 1);
+    }
     let start = &text[..text.len().min(LONGEST)];
     let chunk = start.utf8_chunks().next();
     match chunk.and_then(|chunk| chunk.valid().chars().next()) {
-        Some(c) => (if c.is_control() { '?' } else { c }, c.len_utf8()),
+        Some(c) => (shown(c), c.len_utf8()),
         None => ('?', 1),
     }
 }

@@ -39,7 +39,8 @@ fn may_end(link: u8, line: &[u8]) -> bool {
     fault_of(link, line).is_none_or(|fault| fault.refusal == Refusal::TooLarge)
 }
 
-// The start of a line, behind which candidates are tried: in an array, since callers lend no memory.
+// The start of a line, behind which candidates are tried: in an array, since callers lend no memory. Of a longer one as much is tried as
+// there is room for.
 #[derive(Drop)]
 struct Start {
     link: u8,
@@ -49,16 +50,27 @@ struct Start {
 
 impl Start {
     fn new(link: u8, start: &[u8]) -> Start {
-        let mut line = ArrayVec::new();
-        let _ = line.try_extend_from_slice(start);
-        let _ = line.try_push(b' ');
-        let length = line.len();
-        Start { link, line, length }
+        let line = ArrayVec::new();
+        let mut typed = Start {
+            link,
+            line,
+            length: 0,
+        };
+        typed.put(start);
+        typed.put(b" ");
+        typed.length = typed.line.len();
+        typed
+    }
+
+    // Puts a text behind the line, as far as there is room.
+    fn put(&mut self, text: &[u8]) {
+        let n = text.len().min(self.line.remaining_capacity());
+        let _ = self.line.try_extend_from_slice(&text[..n]);
     }
 
     fn takes(&mut self, candidate: &str) -> bool {
         self.line.truncate(self.length);
-        let _ = self.line.try_extend_from_slice(candidate.as_bytes());
+        self.put(candidate.as_bytes());
         takes(self.link, self.line.as_slice(), self.length)
     }
 }
