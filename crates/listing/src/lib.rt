@@ -31,6 +31,12 @@ pub struct Listing<'a> {
 
 // ---- an instruction's line
 
+// What is left of some columns behind a number's hexadecimal digits, of which it has one at least. The formatter fills columns one by one.
+fn behind(columns: &'static str, number: u32) -> &'static str {
+    let digits = (35 - number.leading_zeros().min(31)) / 4;
+    columns.get(digits as usize..).unwrap_or("")
+}
+
 // Code, jt, jf and k, in decimal.
 #[derive(Clone, Copy)]
 struct Numbers(Insn);
@@ -49,7 +55,8 @@ struct Row(Insn);
 impl Display for Row {
     fn fmt<W: Write>(&self, f: &mut Formatter<W>) -> fmt::Result {
         let Insn { code, jt, jf, k } = self.0;
-        write!(f, "{{ 0x{code:x}, {jt}, {jf}, 0x{k:08x} }},")
+        let zeros = behind("00000000", k);
+        write!(f, "{{ 0x{code:x}, {jt}, {jf}, 0x{zeros}{k:x} }},")
     }
 }
 
@@ -60,23 +67,23 @@ struct Words {
     insn: Insn,
 }
 
-// The words of the codes that the generator emits.
+// The words of the codes that the generator emits, in nine columns.
 // A code is any 16-bit number: one that has no word is listed too, so the codes are no enum.
 fn word(code: u16) -> &'static str {
     match code {
-        0x20 => "ld",
-        0x28 | 0x48 => "ldh",
-        0x30 => "ldb",
-        0xb1 => "ldxb",
-        0x01 => "ldx",
-        0x54 => "and",
-        0x15 => "jeq",
-        0x25 => "jgt",
-        0x35 => "jge",
-        0x45 => "jset",
-        0x05 => "ja",
-        0x06 => "ret",
-        _ => "unimp",
+        0x20 => "ld       ",
+        0x28 | 0x48 => "ldh      ",
+        0x30 => "ldb      ",
+        0xb1 => "ldxb     ",
+        0x01 => "ldx      ",
+        0x54 => "and      ",
+        0x15 => "jeq      ",
+        0x25 => "jgt      ",
+        0x35 => "jge      ",
+        0x45 => "jset     ",
+        0x05 => "ja       ",
+        0x06 => "ret      ",
+        _ => "unimp    ",
     }
 }
 
@@ -113,7 +120,10 @@ impl Words {
     fn put_test<W: Write>(&self, f: &mut Formatter<W>) -> fmt::Result {
         let Insn { code, jt, jf, k } = self.insn;
         match code {
-            0x15 | 0x25 | 0x35 | 0x45 => write!(f, "#{k:<#15x}")?,
+            0x15 | 0x25 | 0x35 | 0x45 => {
+                let columns = behind("             ", k);
+                write!(f, "#{k:#x}{columns}")?;
+            }
             _ => write!(f, "{code:<#16x}")?,
         }
         let jt = self.target(u32::from(jt));
@@ -126,7 +136,12 @@ impl Display for Words {
     fn fmt<W: Write>(&self, f: &mut Formatter<W>) -> fmt::Result {
         let index = self.index;
         let word = word(self.insn.code);
-        write!(f, "({index:03}) {word:<9}")?;
+        let zeros = match index {
+            0..=9 => "00",
+            10..=99 => "0",
+            _ => "",
+        };
+        write!(f, "({zeros}{index}) {word}")?;
         if self.is_test() {
             self.put_test(f)
         } else {
