@@ -1,5 +1,6 @@
 // The program's arguments. Argument 0 is the program's name.
 ghost use Rattle.std.specs.Prelude.{◌≡◌, ◌≤◌, ◌<◌, ℕ, [], length, slice_index_or, IfOk, IfErr};
+ghost use Rattle.io.specs.Counts.{IsPrefixLen};
 ghost use Rattle.frames.specs.declared.argument.Argument.{Argument};
 
 use std::env::FillError;
@@ -65,15 +66,49 @@ impl Argument {
     }
 }
 
+// ---- in lent memory
+
+// How many there are.
+pub fn argument_count(env: &impl Env) -> usize {
+    for i in 0..usize::MAX {
+        if matches!(env.arg(i, &mut []), Err(FillError::NotPresent)) {
+            return i;
+        }
+    }
+    usize::MAX
+}
+
+// Puts an argument at the start of a buffer, and answers its length. One that has no room counts as an empty one.
+pub fn word(env: &impl Env, i: usize, buffer: &mut [u8]) -> usize
+    ensures { IsPrefixLen result buffer.new }
+{
+    match env.arg(i, buffer) {
+        Ok(n) => n,
+        Err(_) => 0,
+    }
+}
+
+// ---- in memory of their own
+
+// The bytes of an argument that is longer than a path, where there is room for them.
+fn long_bytes(rt: &(impl Env + AllocGlobal), number: usize) -> Result<Option<Vec<u8>>> {
+    let mut room = [0u8; ROOM];
+    match rt.arg(number, &mut room) {
+        Ok(n) => Ok(Some(Vec::from_slice(rt.alloc(), &room[..n])?)),
+        Err(_) => Ok(None),
+    }
+}
+
+// They stand in as much memory as they fill.
 pub fn arguments(rt: &(impl Env + AllocGlobal)) -> Result<Vec<Argument>>
     ensures { IfOk result (λ all. (k : ℕ) (d : Argument) → k < length all.items → (slice_index_or all.items k d).number ≡ k) }
 {
-    let mut all = Vec::new(rt.alloc());
-    let mut room = vec![in rt.alloc(); 0; ROOM]?;
+    let mut all = Vec::with_capacity(rt.alloc(), argument_count(rt))?;
+    let mut room = [0u8; PATH];
     for number in 0..usize::MAX {
         let bytes = match rt.arg(number, &mut room) {
             Ok(n) => Some(Vec::from_slice(rt.alloc(), &room[..n])?),
-            Err(FillError::TooLong) => None,
+            Err(FillError::TooLong) => long_bytes(rt, number)?,
             Err(FillError::NotPresent) => break,
         };
         all.push(Argument { number, bytes })?;

@@ -3,18 +3,26 @@ ghost use Rattle.std.specs.Prelude.{◌≡◌, ◌<◌, length};
 
 use crate::argument::Argument;
 use crate::said::{LinkName, Name, Refused};
-use crate::tree::Behind;
-use crate::{Ended, Session, Work};
+use crate::tree::{Behind, TREE_BYTES};
+use crate::{Ended, PROGRAM_BYTES, Session, Work, program_of};
 use ast::LinkType;
 use capture::{Halt, Tally};
 use error::Refusal;
+use files::Source;
+use std::fmt;
 use std::fmt::{Display, Formatter, Write};
 use std::io::{Input, Print};
 use std::rt::Files;
-use std::{fmt, io};
 
 // Room for the longest frame with its header, 65,551 bytes, and for many others in one read.
 const ROOM: usize = 262144;
+
+// Its length alone is known where it is lent: a proof would write out the zeros.
+fn room() -> [u8; ROOM]
+    ensures { 262144 ≡ length result }
+{
+    [0; ROOM]
+}
 
 // How files of Wireshark's own kind start.
 const PCAPNG: [u8; 4] = *b"\n\r\r\n";
@@ -45,7 +53,7 @@ impl Display for Stopped<'_> {
     }
 }
 
-impl<R: Files + Input + AllocGlobal, A: Print, M: Print> Session<'_, R, A, M> {
+impl<R: Files + Input, A: Print, M: Print> Session<'_, R, A, M> {
     fn kept(&self, name: Name, tally: Tally, of: &str) -> Work<Ended> {
         let Tally { kept, given, .. } = tally;
         self.answer(name, format_args!("kept {kept} {of} {given} frames"))
@@ -62,35 +70,36 @@ impl<R: Files + Input + AllocGlobal, A: Print, M: Print> Session<'_, R, A, M> {
         Ok(Ended::Refused)
     }
 
-    // The count of a capture's frames, and the bytes of its last window: of one that is refused with 12 its start.
-    fn count_of(
+    // The source is closed before anything is said. A window starts where the capture does that is refused with 12.
+    fn count_source(
         &self,
-        path: &[u8],
+        name: Name,
+        mut source: Source<R::File, R::Reader>,
         program: &[u8],
         link: LinkType,
-    ) -> io::Result<(Result<Tally, Halt>, Vec<u8>)> {
-        let mut source = files::open(self.rt, path)?;
-        let mut window = vec![in self.rt.alloc(); 0; ROOM]?;
-        let counted = files::count(&mut source, program, link, &mut window)?;
-        Ok((counted, window))
+    ) -> Work<Ended> {
+        let mut window = room();
+        let counted = files::count(&mut source, program, link, &mut window);
+        drop(source);
+        match counted {
+            Ok(Ok(tally)) => self.kept(name, tally, "of"),
+            Ok(Err(Halt { refusal, tally })) => self.stopped(
+                name,
+                Stopped {
+                    refusal,
+                    tally,
+                    link,
+                    start: &window,
+                },
+            ),
+            Err(error) => Ok(self.unread(name, error)),
+        }
     }
 
     fn count_file(&self, path: &[u8], program: &[u8], link: LinkType) -> Work<Ended> {
         let name = Name::File(path);
-        match self.count_of(path, program, link) {
-            Ok((Ok(tally), _)) => self.kept(name, tally, "of"),
-            Ok((Err(Halt { refusal, tally }), window)) => {
-                let start = window.as_slice();
-                self.stopped(
-                    name,
-                    Stopped {
-                        refusal,
-                        tally,
-                        link,
-                        start,
-                    },
-                )
-            }
+        match files::open(self.rt, path) {
+            Ok(source) => self.count_source(name, source, program, link),
             Err(error) => Ok(self.unread(name, error)),
         }
     }
@@ -99,13 +108,15 @@ impl<R: Files + Input + AllocGlobal, A: Print, M: Print> Session<'_, R, A, M> {
     pub(crate) fn count(&self, arguments: &[Argument]) -> Work<Ended>
         ensures { length arguments.now < 2 → result ≡ Err Ended.Usage }
     {
-        let given = self.tree(arguments, Behind::Files)?;
-        let program = match self.program(&given)? {
+        let mut room = [0u8; TREE_BYTES];
+        let given = self.tree(arguments, Behind::Files, &mut room)?;
+        let mut program = [0u8; PROGRAM_BYTES];
+        let program = match program_of(given.tree, &mut program) {
             Ok(program) => program,
             Err(r) => return Ok(self.refused(given.name, r)),
         };
-        match reader::header(&given.tree) {
-            Ok(link) => self.over(given.files, |path| self.count_file(path, &program, link)),
+        match reader::header(given.tree) {
+            Ok(link) => self.over(given.files, |path| self.count_file(path, program, link)),
             Err(r) => Ok(self.refused(given.name, r)),
         }
     }

@@ -14,8 +14,12 @@ pub type Work<T> = Result<T, Ended>;
 
 // The descriptor that takes the exit status, a digit. The scripts that start the program read it there: a program that was stopped has an
 // exit status of its own too.
-const STATUS_FILENO: i32 = 9;
+pub const STATUS_FILENO: i32 = 9;
 
 pub fn tell(ended: Ended) {
-    io::print_decimal(STATUS_FILENO, ended as u64);
+    tell_on(STATUS_FILENO, ended);
+}
+
+pub fn tell_on(fd: i32, ended: Ended) {
+    io::print_decimal(fd, ended as u64);
 }

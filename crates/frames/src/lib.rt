@@ -18,17 +18,16 @@ mod size;
 mod tree;
 mod typed;
 
-pub use argument::{Argument, arguments};
+pub use argument::{Argument, argument_count, arguments, word};
 use ended::Work;
-pub use ended::{Ended, tell};
+pub use ended::{Ended, STATUS_FILENO, tell, tell_on};
 use error::Refusal;
 use said::{Name, Reason, Refused, Unread};
-use std::alloc::{AllocError, Global};
 use std::fmt::Display;
 use std::io;
 use std::io::{Error, Input, Print};
 use std::rt::Files;
-use tree::{Behind, Given};
+use tree::{Behind, TREE_BYTES};
 
 // The most bytes of a program: it has at most 4,096 instructions.
 const PROGRAM_BYTES: usize = 32768;
@@ -86,32 +85,16 @@ impl<R, A: Print, M: Print> Session<'_, R, A, M> {
 
 // ---- the subcommands
 
-// The program of a tree, in memory of its own length, or its refusal.
-fn program_of(alloc: Global, tree: &[u8]) -> Result<Result<Vec<u8>, Refusal>, AllocError>
-    ensures program { IfOk result (λ built. IfOk built (λ bytes. IsProgram tree.now bytes.items)) }
-    ensures refused { IfOk result (λ built. IfErr built (λ r. (build tree.now 32768).answer ≡ Err r)) }
+// The program of a tree, at the start of a lent buffer, or its refusal.
+fn program_of<'a>(tree: &[u8], room: &'a mut [u8; PROGRAM_BYTES]) -> Result<&'a [u8], Refusal>
+    ensures program { IfOk result (λ bytes. IsProgram tree.now bytes.now) }
+    ensures refused { IfErr result (λ r. (build tree.now 32768).answer ≡ Err r) }
 {
-    let mut program = vec![in alloc; 0; PROGRAM_BYTES]?;
-    match build::build(tree, &mut program) {
-        Ok(count) => {
-            program.truncate(8 * count as usize);
-            Ok(Ok(program))
-        }
-        Err(r) => Ok(Err(r)),
-    }
+    let count = build::build(tree, room)?;
+    Ok(&room[..8 * count as usize])
 }
 
-impl<R: Files + Input + AllocGlobal, A: Print, M: Print> Session<'_, R, A, M> {
-    // The program of a tree that is given, or its refusal.
-    fn program(&self, given: &Given) -> Work<Result<Vec<u8>, Refusal>>
-        ensures { result ≢ Err Ended.Usage }
-    {
-        match program_of(self.rt.alloc(), &given.tree) {
-            Ok(program) => Ok(program),
-            Err(error) => Err(self.unread(given.name, Error::from(error))),
-        }
-    }
-
+impl<R: Files + Input, A: Print, M: Print> Session<'_, R, A, M> {
     fn subcommand(&self, arguments: &[Argument]) -> Work<Ended>
         ensures none { length arguments.now ≡ 0 → result ≡ Err Ended.Usage }
         ensures unknown { IfWord arguments.now 0 (λ command. ¬ Contains commands command → result ≡ Err Ended.Usage) }
@@ -143,8 +126,9 @@ impl<R: Files + Input + AllocGlobal, A: Print, M: Print> Session<'_, R, A, M> {
         ensures unlinked { IfWord arguments.now 0 (λ link. ¬ Contains links link → result ≡ Err Ended.Usage) }
         ensures right { length arguments.now ≡ 2 → IfWord arguments.now 0 (λ link. Contains links link → NotUsage result) }
     {
-        let given = self.typed(arguments, Behind::Nothing)?;
-        self.answered(self.answers.write_all(&given.tree))
+        let mut room = [0u8; TREE_BYTES];
+        let given = self.typed(arguments, Behind::Nothing, &mut room)?;
+        self.answered(self.answers.write_all(given.tree))
     }
 
     // What `pft` does with its arguments, and how that ended. Of wrong usage it says nothing: the script that starts it has the help.

@@ -2,8 +2,8 @@
 ghost use Rattle.frames.specs.Endings.{NotUsage};
 
 use crate::argument::Argument;
-use crate::tree::Behind;
-use crate::{Ended, Session, Work};
+use crate::tree::{Behind, TREE_BYTES};
+use crate::{Ended, PROGRAM_BYTES, Session, Work, program_of};
 use listing::{Form, Listing};
 use std::io::{Input, Print};
 use std::rt::Files;
@@ -28,23 +28,25 @@ fn form_and_rest(arguments: &[Argument]) -> (Form, &[Argument]) {
     (Form::Numbers, arguments)
 }
 
-impl<R: Files + Input + AllocGlobal, A: Print, M: Print> Session<'_, R, A, M> {
+impl<R: Files + Input, A: Print, M: Print> Session<'_, R, A, M> {
     fn put_listing(&self, program: &[u8], form: Form) -> Work<Ended>
         ensures { NotUsage result }
     {
-        self.answered(self.answers.print(Listing { program, form }))
+        self.answered(Listing { program, form }.print_to(&self.answers))
     }
 
     // A tree, or none for standard input.
     pub(crate) fn list(&self, arguments: &[Argument]) -> Work<Ended> {
         let (form, rest) = form_and_rest(arguments);
+        let mut room = [0u8; TREE_BYTES];
         let given = if rest.is_empty() {
-            self.input_tree()?
+            self.input_tree(&mut room)?
         } else {
-            self.tree(rest, Behind::Nothing)?
+            self.tree(rest, Behind::Nothing, &mut room)?
         };
-        match self.program(&given)? {
-            Ok(program) => self.put_listing(&program, form),
+        let mut program = [0u8; PROGRAM_BYTES];
+        match program_of(given.tree, &mut program) {
+            Ok(program) => self.put_listing(program, form),
             Err(r) => Ok(self.refused(given.name, r)),
         }
     }
@@ -53,9 +55,11 @@ impl<R: Files + Input + AllocGlobal, A: Print, M: Print> Session<'_, R, A, M> {
     pub(crate) fn list_input(&self) -> Work<Ended>
         ensures { NotUsage result }
     {
-        let given = self.input_tree()?;
-        match self.program(&given)? {
-            Ok(program) => self.put_listing(&program, Form::Numbers),
+        let mut room = [0u8; TREE_BYTES];
+        let given = self.input_tree(&mut room)?;
+        let mut program = [0u8; PROGRAM_BYTES];
+        match program_of(given.tree, &mut program) {
+            Ok(program) => self.put_listing(program, Form::Numbers),
             Err(r) => {
                 let to = &self.answers;
                 let number = u32::from(r);

@@ -3,8 +3,8 @@ ghost use Rattle.std.specs.Prelude.{◌≡◌, ◌<◌, length};
 
 use crate::argument::Argument;
 use crate::said::{Name, VerdictWord};
-use crate::tree::Behind;
-use crate::{Ended, Session, Work};
+use crate::tree::{Behind, TREE_BYTES};
+use crate::{Ended, PROGRAM_BYTES, Session, Work, program_of};
 use error::Refusal;
 use std::io::{Input, Print};
 use std::rt::Files;
@@ -24,7 +24,7 @@ fn is_tree(r: Refusal) -> bool {
     )
 }
 
-impl<R: Files + Input + AllocGlobal, A: Print, M: Print> Session<'_, R, A, M> {
+impl<R: Files + Input, A: Print, M: Print> Session<'_, R, A, M> {
     // Where there is no program the tree is read directly alone.
     fn run_program(
         &self,
@@ -51,12 +51,13 @@ impl<R: Files + Input + AllocGlobal, A: Print, M: Print> Session<'_, R, A, M> {
 
     fn run_frame(&self, path: &[u8], tree: &[u8], program: Option<&[u8]>) -> Work<Ended> {
         let name = Name::File(path);
-        let frame = match files::read_up_to(self.rt, path, FRAME_BYTES) {
-            Ok(frame) => frame,
+        let mut room = [0u8; FRAME_BYTES];
+        let frame = match files::read(self.rt, path, &mut room) {
+            Ok(n) => &room[..n],
             Err(error) => return Ok(self.unread(name, error)),
         };
-        match evaluate::direct_reading(tree, &frame) {
-            Ok(truth) => self.run_program(name, program, &frame, truth),
+        match evaluate::direct_reading(tree, frame) {
+            Ok(truth) => self.run_program(name, program, frame, truth),
             Err(r) => Ok(self.refused(name, r)),
         }
     }
@@ -65,12 +66,14 @@ impl<R: Files + Input + AllocGlobal, A: Print, M: Print> Session<'_, R, A, M> {
     pub(crate) fn run(&self, arguments: &[Argument]) -> Work<Ended>
         ensures { length arguments.now < 2 → result ≡ Err Ended.Usage }
     {
-        let given = self.tree(arguments, Behind::Files)?;
-        let tree = given.tree.as_slice();
-        match self.program(&given)? {
+        let mut room = [0u8; TREE_BYTES];
+        let given = self.tree(arguments, Behind::Files, &mut room)?;
+        let tree = given.tree;
+        let mut program = [0u8; PROGRAM_BYTES];
+        match program_of(tree, &mut program) {
             Ok(program) => self.over(
                 given.files,
-                |path| self.run_frame(path, tree, Some(program.as_slice())),
+                |path| self.run_frame(path, tree, Some(program)),
             ),
             Err(r) => {
                 let ended = self.refused(given.name, r);

@@ -1,7 +1,6 @@
 // What is said in words: names, refusals, verdicts, links and errors.
 use ast::LinkType;
 use error::Refusal;
-use hints::Shown;
 use std::fmt::{Display, Formatter, Write};
 use std::io::{Error, ErrorKind, Print};
 use std::{fmt, io};
@@ -12,8 +11,8 @@ use vm::Verdict;
 pub enum Name<'a> {
     // `-` is standard input.
     File(&'a [u8]),
-    // A typed line.
-    Line(Shown<'a>),
+    // A typed line, which goes by what is shown of it.
+    Line(&'a [u8]),
     // An argument that no path can be.
     Argument(usize),
 }
@@ -27,7 +26,7 @@ impl Name<'_> {
                 }
                 to.write_all(path)
             }
-            Name::Line(shown) => print!(to; "{shown}"),
+            Name::Line(line) => print!(to; "{}", hints::show(line, 0)),
             Name::Argument(number) => print!(to; "argument {number}"),
         }
     }
@@ -117,8 +116,7 @@ const EBADF: i32 = 9;
 // Linux's number of a permission that a file's mode denies: its kind is also that of EPERM, which has no words here.
 const EACCES: i32 = 13;
 
-// Why a file cannot be read or written. An error with a number is the system's: a name is invalid to it that is too long, and its memory is
-// not this program's.
+// Why a file cannot be read or written. An error with a number is the system's: a name is invalid to it that is too long.
 fn error_words(error: &Error) -> &'static str {
     let number = error.raw_os_error();
     match error.kind() {
@@ -132,7 +130,6 @@ fn error_words(error: &Error) -> &'static str {
         ErrorKind::FileTooLarge => "it is too long",
         ErrorKind::StorageFull => "no space is left",
         ErrorKind::BrokenPipe => "nobody reads it",
-        ErrorKind::OutOfMemory if number.is_none() => "there is no memory left",
         _ if number == Some(EBADF) => "it is not open",
         _ => "the system reports an error",
     }

@@ -3,15 +3,15 @@ ghost use Rattle.std.specs.Prelude.{◌≡◌, length};
 
 use crate::argument::Argument;
 use crate::over::names_input_twice;
-use crate::tree::{Behind, Given};
+use crate::tree::{Behind, Given, TREE_BYTES};
 use crate::{Ended, Session, Work};
 use std::io::{Input, Print};
 use std::rt::Files;
 
-impl<R: Files + Input + AllocGlobal, A: Print, M: Print> Session<'_, R, A, M> {
+impl<R: Files + Input, A: Print, M: Print> Session<'_, R, A, M> {
     // An instruction has 8 bytes.
-    fn size_of(&self, given: &Given) -> Work<Ended> {
-        match build::question(&given.tree) {
+    fn size_of(&self, given: Given) -> Work<Ended> {
+        match build::question(given.tree) {
             Ok(count) => {
                 let bytes = 8 * u64::from(count);
                 self.answer(
@@ -25,8 +25,9 @@ impl<R: Files + Input + AllocGlobal, A: Print, M: Print> Session<'_, R, A, M> {
 
     // One tree file among others.
     fn size_file(&self, path: &[u8]) -> Work<Ended> {
-        match self.tree_file(path, &[]) {
-            Ok(given) => self.size_of(&given),
+        let mut room = [0u8; TREE_BYTES];
+        match self.tree_file(path, &[], &mut room) {
+            Ok(given) => self.size_of(given),
             // The others have a size.
             Err(ended) => Ok(ended),
         }
@@ -40,7 +41,8 @@ impl<R: Files + Input + AllocGlobal, A: Print, M: Print> Session<'_, R, A, M> {
             return Err(Ended::Usage);
         };
         if first.is_option() {
-            return self.size_of(&self.tree(arguments, Behind::Nothing)?);
+            let mut room = [0u8; TREE_BYTES];
+            return self.size_of(self.tree(arguments, Behind::Nothing, &mut room)?);
         }
         if names_input_twice(arguments) {
             return Err(self.named_twice());

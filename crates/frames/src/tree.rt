@@ -28,10 +28,10 @@ impl Behind {
 }
 
 // A tree file's bytes, what they go by, and the files behind it.
-#[derive(Drop)]
+#[derive(Clone, Copy)]
 pub struct Given<'a> {
     pub name: Name<'a>,
-    pub tree: Vec<u8>,
+    pub tree: &'a [u8],
     pub files: &'a [Argument],
 }
 
@@ -39,41 +39,55 @@ pub struct Given<'a> {
 // length over 3,080.
 pub const TREE_BYTES: usize = 4096;
 
-impl<R: Files + Input + AllocGlobal, A: Print, M: Print> Session<'_, R, A, M> {
+impl<R: Files + Input, A: Print, M: Print> Session<'_, R, A, M> {
     // A tree file by name.
-    pub(crate) fn tree_file<'a>(&self, path: &'a [u8], files: &'a [Argument]) -> Work<Given<'a>>
+    pub(crate) fn tree_file<'a>(
+        &self,
+        path: &'a [u8],
+        files: &'a [Argument],
+        room: &'a mut [u8; TREE_BYTES],
+    ) -> Work<Given<'a>>
         ensures { result ≢ Err Ended.Usage }
     {
         let name = Name::File(path);
-        match files::read_up_to(self.rt, path, TREE_BYTES) {
-            Ok(tree) => Ok(Given { name, tree, files }),
+        match files::read(self.rt, path, room) {
+            Ok(n) => Ok(Given {
+                name,
+                tree: &room[..n],
+                files,
+            }),
             Err(error) => Err(self.unread(name, error)),
         }
     }
 
     // A tree file from standard input.
-    pub(crate) fn input_tree(&self) -> Work<Given<'static>>
+    pub(crate) fn input_tree<'a>(&self, room: &'a mut [u8; TREE_BYTES]) -> Work<Given<'a>>
         ensures { result ≢ Err Ended.Usage }
     {
-        self.tree_file(b"-", &[])
+        self.tree_file(b"-", &[], room)
     }
 
     // A tree, which is a name or `--type` with a link and a line, and the files behind it.
-    pub(crate) fn tree<'a>(&self, arguments: &'a [Argument], behind: Behind) -> Work<Given<'a>>
+    pub(crate) fn tree<'a>(
+        &self,
+        arguments: &'a [Argument],
+        behind: Behind,
+        room: &'a mut [u8; TREE_BYTES],
+    ) -> Work<Given<'a>>
         ensures { behind ≡ Behind.Files → length arguments.now < 2 → result ≡ Err Ended.Usage }
     {
         let Some((first, files)) = arguments.split_first() else {
             return Err(Ended::Usage);
         };
         if first.word() == b"--type".as_slice() {
-            return self.typed(files, behind);
+            return self.typed(files, behind, room);
         }
         if first.is_option() || !behind.fits(files) {
             return Err(Ended::Usage);
         }
         match first.path() {
             Ok(_) if names_input_twice(arguments) => Err(self.named_twice()),
-            Ok(path) => self.tree_file(path, files),
+            Ok(path) => self.tree_file(path, files, room),
             Err(error) => Err(self.unread(Name::Argument(first.number), error)),
         }
     }

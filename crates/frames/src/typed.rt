@@ -5,12 +5,12 @@ ghost use Rattle.frames.specs.Words.{IfWord, links};
 use crate::argument::Argument;
 use crate::over::names_input_twice;
 use crate::said::{Name, Refused};
-use crate::tree::{Behind, Given};
+use crate::tree::{Behind, Given, TREE_BYTES};
 use crate::{Ended, Session, Work};
 use ast::LinkType;
 use error::Refusal;
 use std::io;
-use std::io::{Error, Input, Print};
+use std::io::{Input, Print};
 use std::rt::Files;
 use typing::Fault;
 
@@ -37,7 +37,7 @@ struct Rejected<'a> {
     fault: Fault,
 }
 
-impl<R: Files + Input + AllocGlobal, A: Print, M: Print> Session<'_, R, A, M> {
+impl<R: Files + Input, A: Print, M: Print> Session<'_, R, A, M> {
     // ---- a line that is refused
 
     // Below the line a mark under the place, the refusal, and what could stand there.
@@ -77,23 +77,23 @@ impl<R: Files + Input + AllocGlobal, A: Print, M: Print> Session<'_, R, A, M> {
         link: LinkType,
         line: &'a [u8],
         files: &'a [Argument],
+        room: &'a mut [u8; TREE_BYTES],
     ) -> Work<Given<'a>>
         ensures { result ≢ Err Ended.Usage }
     {
-        let name = Name::Line(hints::show(line, 0));
         // Lent bytes, as the typing takes them.
-        let mut room = [0u8; TYPED_BYTES];
-        let length = match type_line::type_line(link as u8, line, &mut room) {
+        let mut typed = [0u8; TYPED_BYTES];
+        let length = match type_line::type_line(link as u8, line, &mut typed) {
             Ok(length) => length,
             Err(fault) => return Err(self.turned_down(Rejected { link, line, fault })),
         };
-        match Vec::from_slice(self.rt.alloc(), &room) {
-            Ok(mut tree) => {
-                tree.truncate(length);
-                Ok(Given { name, tree, files })
-            }
-            Err(error) => Err(self.unread(name, Error::from(error))),
-        }
+        // The tree stands where one of a file does.
+        room[..TYPED_BYTES].copy_from_slice(&typed);
+        Ok(Given {
+            name: Name::Line(line),
+            tree: room.get(..length).unwrap_or(b""),
+            files,
+        })
     }
 
     // ---- the arguments
@@ -123,7 +123,12 @@ impl<R: Files + Input + AllocGlobal, A: Print, M: Print> Session<'_, R, A, M> {
     }
 
     // A link, a line, and the files behind them.
-    pub(crate) fn typed<'a>(&self, arguments: &'a [Argument], behind: Behind) -> Work<Given<'a>>
+    pub(crate) fn typed<'a>(
+        &self,
+        arguments: &'a [Argument],
+        behind: Behind,
+        room: &'a mut [u8; TREE_BYTES],
+    ) -> Work<Given<'a>>
         ensures few { length arguments.now < 2 → result ≡ Err Ended.Usage }
         ensures many { behind ≡ Behind.Nothing → length arguments.now ≢ 2 → result ≡ Err Ended.Usage }
         ensures unlinked { IfWord arguments.now 0 (λ link. ¬ Contains links link → result ≡ Err Ended.Usage) }
@@ -143,7 +148,7 @@ impl<R: Files + Input + AllocGlobal, A: Print, M: Print> Session<'_, R, A, M> {
             return Err(self.named_twice());
         }
         match line.line() {
-            Ok(text) => self.typed_line(link, text, files),
+            Ok(text) => self.typed_line(link, text, files, room),
             Err(error) => Err(self.unread(Name::Argument(line.number), error)),
         }
     }
