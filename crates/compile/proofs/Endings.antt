@@ -30,8 +30,9 @@ use Rattle.emit.proofs.Grow.{kept_then, Sized}
 use Rattle.codegen.proofs.Shape.{weight}
 use Rattle.reader.specs.Reader.{tree_of}
 use Rattle.guards.specs.declared.Note.{Note}
+use Rattle.ast.specs.declared.LinkType.{LinkType}
 use Rattle.ast.specs.Tree.{Expr}
-use Rattle.compile.specs.Walks.{Ready, Ended, Holds, Compiles}
+use Rattle.compile.specs.Walks.{Programs, Counts, Ready, Ended, Holds, Compiles}
 
 -- ---- what is far stays far
 
@@ -138,8 +139,8 @@ begun_kept l = record {
   link = l.link;
 }
 
-pub begun_room : {s : List ℕ} {M : List Note} {d e : Emitter} → Ready s M d → Empty e → Begun d e → Room (weight (tree_of s 0)) e
-begun_room r z l = record {
+pub begun_room : {s : List ℕ} {M : List Note} (d : Emitter) {e : Emitter} → Ready s M d.success.patches.now d.failure.patches.now → Empty e → Begun d e → Room (weight (tree_of s 0)) e
+begun_room d r z l = record {
   insns = omega (arith, r.insns, z.count);
   writings = omega (arith, r.insns, z.x_writes);
   failures = omega (arith, r.failures, z.failure, ap length l.lost);
@@ -169,8 +170,8 @@ compiled_done t g h k = rw (← g, h) k
 
 -- ---- the walk's end
 
-pub ended : {s : List ℕ} {M : List Note} {c : Code} {k d e : Emitter} → Ready s M k → Empty d → Begun k d → Grew c d e → Sized (weight (tree_of s 0)) d e → Ended e
-ended {e = e} r o l g z = record {
+pub ended : {s : List ℕ} {M : List Note} {c : Code} (k : Emitter) {d e : Emitter} → Ready s M k.success.patches.now k.failure.patches.now → Empty d → Begun k d → Grew c d e → Sized (weight (tree_of s 0)) d e → Ended e
+ended k {e = e} r o l g z = record {
   insns = omega (arith, z.insns, o.count, r.insns);
   successes = omega (arith, z.successes, o.success, r.successes, z.won_room, ap length l.won);
   failures = omega (arith, z.failures, o.failure, r.failures, z.lost_room, ap length l.lost);
@@ -183,3 +184,20 @@ ended {e = e} r o l g z = record {
         let b = before_end g s h 0 in
         let k : e.count + 0 ≡ e.count = omega arith in
         subst (λ (m : ℕ). Below e.count (drop m (waiting (stack_of s e)))) q (rw k at b)
+
+-- ---- in a lent row
+
+counts_of : (o : Out (List Insn)) (d e : Emitter) {I : List Insn} → I ≡ e.insns.now → Answers o (λ p. Holds p d e) (Ok tt) → Counts o I (Ok e.count)
+counts_of (Ok p) d e q h = rw q (h.count, h.insns)
+counts_of (Err r) d e q h = absurd h
+
+refused_of : (o : Out (List Insn)) (d e : Emitter) (I : List Insn) (x : Refusal) → Answers o (λ p. Holds p d e) (Err x) → Counts o I (Err x)
+refused_of (Ok p) d e I x h = absurd h
+refused_of (Err r) d e I x h = h
+
+module _ (t : Expr) {L : LinkType} {d e : Emitter} {r : Out (Unit {0})} (l : d.link ≡ L) (h : Compiles (compile d.link t) d e r) {I : List Insn} where
+  pub program_in : r ≡ Ok tt → I ≡ e.insns.now → Programs (compile L t) I (Ok e.count)
+  program_in p q = rw (← l) (record { is = counts_of (compile d.link t) d e q (rw p at h.is) })
+
+  pub refused_in : {x : Refusal} → r ≡ Err x → Programs (compile L t) I (Err x)
+  refused_in {x} p = rw (← l) (record { is = refused_of (compile d.link t) d e I x (rw p at h.is) })

@@ -1,5 +1,5 @@
 -- The walk over the records: what it needs, and its parts as the code has them.
-use Rattle.std.specs.Prelude.{ℕ, ◌+◌, ◌≤◌, ◌<◌, ◌≡◌, List, ◌++◌, map, length, take, drop, Ok}
+use Rattle.std.specs.Prelude.{ℕ, ◌+◌, ◌≤◌, ◌<◌, ◌≡◌, List, ◌++◌, map, length, take, drop, Ok, Err}
 use Rattle.error.specs.Answer.{Out, ◌>>=◌}
 use Rattle.bpf.specs.declared.Insn.{Insn}
 use Rattle.ast.specs.declared.LinkType.{LinkType}
@@ -13,6 +13,7 @@ use Rattle.codegen.specs.Emit.{Code, code, restored_after, emit}
 use Rattle.codegen.specs.Compile.{finished, returns}
 use Rattle.codegen.proofs.Shape.{weight}
 use Rattle.emit.specs.declared.Emitter.{Emitter}
+use Rattle.emit.specs.declared.Patch.{Patch}
 use Rattle.emit.specs.Lines.{Below, waiting}
 use Rattle.emit.specs.Grown.{Empty, Kept, Grew, Answers}
 use Rattle.reader.specs.Reader.{Here, tree_of}
@@ -70,10 +71,20 @@ pub record Ended (e : Emitter) : Type 0 where
 pub record Finishes (e f : Emitter) (r : Out (Unit {0})) : Type 0 where
   pub program : (c : Code) (d : Emitter) → Empty d → Grew c d e → Compiles (resolved (finished c.block) >>= λ b. Ok (map assemble b ++ returns)) d f r
 
--- a file with one tree, and room for its notes and pending jumps, whatever the emitter holds
-pub record Ready (s : List ℕ) (M : List Note) (e : Emitter) : Type 0 where
+-- the count of a program that stands in the row I, where I reaches to its end; or a refusal
+abbrev pub Counts : Out (List Insn) → List Insn → Out ℕ → Type 0
+Counts (Ok p) I (Ok n) = (n ≡ length p) × (n ≤ length I → take n I ≡ p)
+Counts (Ok p) I (Err q) = ⊥
+Counts (Err r) I (Ok n) = ⊥
+Counts (Err r) I (Err q) = q ≡ r
+
+pub record Programs (o : Out (List Insn)) (I : List Insn) (r : Out ℕ) : Type 0 where
+  pub is : Counts o I r
+
+-- a file with one tree, and room for its notes and, in the rows Y and N, for pending jumps
+pub record Ready (s : List ℕ) (M : List Note) (Y N : List Patch) : Type 0 where
   pub noting : Noting s M
   pub proper : Proper (tree_of s 0)
   pub insns : weight (tree_of s 0) + 2 ≤ 65536
-  pub successes : weight (tree_of s 0) ≤ length e.success.patches.now
-  pub failures : weight (tree_of s 0) ≤ length e.failure.patches.now
+  pub successes : weight (tree_of s 0) ≤ length Y
+  pub failures : weight (tree_of s 0) ≤ length N

@@ -11,10 +11,10 @@ ghost use Rattle.reader.specs.Reader.{tree_of, end_of};
 ghost use Rattle.reader.proofs.Here.{TwoParts, OnePart};
 ghost use Rattle.compile.specs.Walks as W;
 
-use ast::Node;
+use ast::{LinkType, Node};
 use bpf::Insn;
 use codegen::Side;
-use emit::Emitter;
+use emit::{Emitter, Patch};
 use error::Refusal;
 use guards::Note;
 
@@ -181,7 +181,7 @@ fn begin(e: &mut Emitter<'_>)
 
 // The program of the file's tree, over whatever the emitter held.
 pub fn compile(tree: &[u8], notes: &mut [Note], e: &mut Emitter<'_>) -> Result<(), Refusal>
-    requires { W.Ready tree.now notes.old e.old }
+    requires { W.Ready tree.now notes.old e.old.success.patches.now e.old.failure.patches.now }
     ensures { W.Compiles (C.compile e.old.link (tree_of tree.now 0)) e.old e.new result }
 {
     note_joins(tree, notes);
@@ -189,4 +189,25 @@ pub fn compile(tree: &[u8], notes: &mut [Note], e: &mut Emitter<'_>) -> Result<(
     begin(e);
     file.emit_expr(0, e)?;
     finish(e)
+}
+
+// The same for a link and over lent rows: the program's count, and the program at the start of `insns` where that reaches to its end.
+// Six parameters: what `compile` takes, and what its emitter is made of.
+pub fn compile_in(
+    tree: &[u8],
+    link: LinkType,
+    notes: &mut [Note],
+    insns: &mut [Insn],
+    success: &mut [Patch],
+    failure: &mut [Patch],
+) -> Result<usize, Refusal>
+    requires { W.Ready tree.now notes.old success.old failure.old }
+    ensures { W.Programs (C.compile link (tree_of tree.now 0)) insns.new result }
+{
+    let mut e = Emitter::new(link, insns, success, failure);
+    compile(tree, notes, &mut e)?;
+    let count = e.count;
+    // Taken out of the emitter: with that alone let go, nothing would be known of the lender's row.
+    let _row = e.insns;
+    Ok(count)
 }

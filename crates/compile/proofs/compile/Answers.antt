@@ -6,7 +6,7 @@ use Rattle.compile.proofs.Endings.{begun_room, compiled, compiled_down, compiled
 use Rattle.compile.proofs.compile.Goals as goal
 
 pub emit_expr-requires-clause-room : goal.emit_expr-requires-clause-room
-emit_expr-requires-clause-room c = begun_room c.requires c.begin.ensures.empty c.begin.ensures.lent
+emit_expr-requires-clause-room c = begun_room c.args.e.now c.requires c.begin.ensures.empty c.begin.ensures.lent
 
 pub returns-in_err-emit_expr : goal.returns-in_err-emit_expr
 returns-in_err-emit_expr c =
@@ -17,7 +17,7 @@ pub finish-requires : goal.finish-requires
 finish-requires c =
     let b = c.begin.new.e in
     let w = reply_done c.emit_expr.ensures c.in_ok-emit_expr.was in
-    ended c.requires c.begin.ensures.empty c.begin.ensures.lent w.grew (tree_sized b.link (tree_of c.args.tree.now 0) b.facts c.requires.proper w)
+    ended c.args.e.now c.requires c.begin.ensures.empty c.begin.ensures.lent w.grew (tree_sized b.link (tree_of c.args.tree.now 0) b.facts c.requires.proper w)
 
 pub returns : goal.returns
 returns c =
