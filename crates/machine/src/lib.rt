@@ -315,19 +315,24 @@ impl<'a> State<'a> {
         }
     }
 
-    // The codes that the second loop meets most, in one table; all others by their class, which jumps twice.
+    // The codes that the second loop meets most, in one table of their low bytes; all others by their class, which jumps twice. The low byte
+    // alone goes on, so that no register holds the whole code.
     #[tactic(auto, unfolding(vm::specs::Machine::effect, vm::specs::Machine::ld, vm::specs::Machine::ldx))]
     fn effect(&self, insn: Insn) -> Effect
         ensures { result ≡ M.effect self.now.frame.now self.now.scratch.now insn self.now.registers.a self.now.registers.x }
     {
-        match insn.code % 256 {
+        let low = Insn {
+            code: insn.code % 256,
+            ..insn
+        };
+        match low.code {
             0x02 => Effect::Store(insn.k, self.registers.a),
             0x03 => Effect::Store(insn.k, self.registers.x),
             0x07 => Effect::SetX(self.registers.a),
             0x60 => self.word(insn.k).map_or_else(Effect::Stop, Effect::SetA),
             0x61 => self.word(insn.k).map_or_else(Effect::Stop, Effect::SetX),
             0x87 => Effect::SetA(self.registers.x),
-            _ => self.by_class(insn),
+            _ => self.by_class(low),
         }
     }
 }

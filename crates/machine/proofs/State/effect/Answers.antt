@@ -1,6 +1,6 @@
 use Rattle.std.proofs.Common.{rules, sym}
 use Rattle.vm.specs.Machine.{effect, ld, ldx}
-use Rattle.machine.proofs.Low.{by_low}
+use Rattle.machine.proofs.Low.{effect_low, by_low}
 use Rattle.machine.proofs.State.effect.Goals as goal
 
 pub returns-in-7 : goal.returns-in-7
@@ -18,3 +18,6 @@ returns-in-97 c = rw (by_low c.args.self.now.frame.now c.args.self.now.scratch.n
 pub returns-in-135 : goal.returns-in-135
 unfolding effect
 returns-in-135 c = sym (by_low _ _ _ _ _ _ c.in-135.is)
+
+pub returns-in_default : goal.returns-in_default
+returns-in_default c = rw c.by_class.ensures (effect_low _ _ _ _ _ _ _ _)
