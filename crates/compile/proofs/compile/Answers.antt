@@ -1,3 +1,4 @@
+use Rattle.std.proofs.Common.{arith}
 use Rattle.std.proofs.lemmas.Result.{err_from_is_err_and}
 use Rattle.reader.specs.Reader.{tree_of}
 use Rattle.emit.proofs.Outcome.{reply_done, reply_refused}
@@ -17,7 +18,8 @@ pub finish-requires : goal.finish-requires
 finish-requires c =
     let b = c.begin.new.e in
     let w = reply_done c.emit_expr.ensures c.in_ok-emit_expr.was in
-    ended c.args.e.now c.requires c.begin.ensures.empty c.begin.ensures.lent w.grew (tree_sized b.link (tree_of c.args.tree.now 0) b.facts c.requires.proper w)
+    let z = ended c.args.e.now c.requires c.begin.ensures.empty c.begin.ensures.lent w.grew (tree_sized b.link (tree_of c.args.tree.now 0) b.facts c.requires.proper w) in
+    record { insns = omega (arith, z.insns); successes = omega (arith, z.successes); failures = omega (arith, z.failures); won = z.won; lost = z.lost }
 
 pub returns : goal.returns
 returns c =
