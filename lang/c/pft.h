@@ -83,9 +83,9 @@ enum pft_verdict {
 #define PFT_FRAME_HEADER_SIZE ((size_t)16)
 
 /*
- * The stack that a call may take, in bytes. Measured: a build, a question, a load or a count 70,500
- * for one record and 113,100 for 127 nots over one, which is the deepest tree; a direct reading 400
- * and 30,900; a typed line 4,400, whatever it is; a run or a frame below 300.
+ * The stack that a call may take, in bytes. Measured: a build, a load or a count 1,900 for one record
+ * and 115,300 for 127 nots over one, which is the deepest tree, a question 1,500 and 83,600; a direct
+ * reading 300 and 24,800; a typed line 2,700, whatever it is; a run or a frame below 300.
  */
 #define PFT_STACK ((size_t)262144)
 

@@ -51,7 +51,7 @@
 //!
 //! The crate takes `core` alone and no heap. A [`Tree`] has 3 KiB and a [`Program`] 31 KiB. A build
 //! takes up to 256 KiB of stack, whatever the thread, and so do a question, a load and a count; the
-//! other calls a sixth of that. Frames are pieces of the capture that was lent, and never copied.
+//! other calls a tenth of that. Frames are pieces of the capture that was lent, and never copied.
 
 #![no_std]
 #![deny(missing_docs, unsafe_code)]
