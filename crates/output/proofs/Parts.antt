@@ -26,8 +26,8 @@ module _ (p : List Insn) (d : List ℕ) (i : ℕ) (x : Insn) (l : i < length p) 
   unfolding program_bytes
   one_more = rw add-one (ap program_bytes (take-suc p i x l) ∙ bytes_append (take i p) (get_or p i x ∷ []) ∙ ap (λ r. program_bytes (take i p) ++ r) (append-nil (insn_bytes (get_or p i x))))
 
-  -- one instruction more, as a copy into its part of the buffer leaves it
-  pub next : put_mid (8 * i) (8 * i + 8 - 8 * i) (written p d i) (insn_bytes (get_or p i x)) ≡ written p d (i + 1)
-  next =
-      rw (one_more, take_at (program_bytes (take i p)) (drop (8 * i) d) (8 * i) so_far, drop_at (program_bytes (take i p)) (drop (8 * i) d) (8 * i) so_far, drop-drop)
+  -- one instruction more, as a copy into the part of the buffer at its place leaves it
+  pub next : (at : ℕ) → at ≡ 8 * i → put_mid at (at + 8 - at) (written p d i) (insn_bytes (get_or p i x)) ≡ written p d (i + 1)
+  next at e =
+      rw (e, one_more, take_at (program_bytes (take i p)) (drop (8 * i) d) (8 * i) so_far, drop_at (program_bytes (take i p)) (drop (8 * i) d) (8 * i) so_far, drop-drop)
       (sym (append_assoc (program_bytes (take i p)) (insn_bytes (get_or p i x)) _) ∙ ap (λ n. program_bytes (take i p) ++ insn_bytes (get_or p i x) ++ drop n d) (omega arith))
