@@ -4,12 +4,13 @@
 ghost use Rattle.std.specs.Prelude.{◌≡◌, ℕ, [], ◌∷◌, ◌++◌, ◌+◌, ◌≤◌, ◌<◌, length};
 ghost use Rattle.ast.specs.declared.Primitive.TheVariants.{IpBroadcast, IpMulticast, Ip6Multicast};
 ghost use Rattle.codegen.specs.declared.Width.TheVariants.{Word};
+ghost use Rattle.codegen.specs.declared.Side.TheVariants.{Success, Failure};
 ghost use Rattle.codegen.specs.declared.Op.TheVariants.{LdAbs};
 ghost use Rattle.codegen.specs.Block.{Block};
 ghost use Rattle.codegen.specs.Emit as E;
 ghost use Rattle.codegen.specs.Nets6 as N;
 ghost use Rattle.std.proofs.Common.{rules};
-ghost use Rattle.emit.specs.Grown.{Place, Space, Room, Grows, Replies};
+ghost use Rattle.emit.specs.Grown.{Place, Space, Room, Spared, Grows, Replies};
 ghost use Rattle.conditions.specs.Loads as L;
 
 use ast::{Dir, LinkType};
@@ -92,7 +93,8 @@ impl Version {
 #[tactic(auto, using(emit::proofs::Outcome::unchanged), unfolding(codegen::specs::Emit::emit_ethertype))]
 pub fn emit_ethertype(e: &mut Emitter<'_>, et: u32) -> Result<(), Refusal>
     requires { Space 2 e.old }
-    ensures { Replies (E.emit_ethertype e.old.link et e.old.facts) e.old e.new result }
+    ensures answer { Replies (E.emit_ethertype e.old.link et e.old.facts) e.old e.new result }
+    ensures spared { Spared Success e.old e.new }
 {
     let Some(off) = ether_proto_offset(e.link) else {
         return if et == IPV4 {
@@ -112,7 +114,8 @@ pub fn emit_ethertype(e: &mut Emitter<'_>, et: u32) -> Result<(), Refusal>
 #[tactic(auto, using(crate::proofs::Starts::ethertype_size, crate::proofs::Starts::l4_refused, crate::proofs::Starts::l4_known, crate::proofs::Starts::l4_tested))]
 pub fn emit_l4(e: &mut Emitter<'_>, version: Version, n: u32) -> Result<(), Refusal>
     requires { Space 4 e.old }
-    ensures { Replies (L.emit_version e.old.link version n e.old.facts) e.old e.new result }
+    ensures answer { Replies (L.emit_version e.old.link version n e.old.facts) e.old e.new result }
+    ensures spared { Spared Success e.old e.new }
 {
     emit_ethertype(e, version.ethertype())?;
     if version.proto_fact(e.facts) != Some(n) {
@@ -127,7 +130,9 @@ pub fn emit_l4(e: &mut Emitter<'_>, version: Version, n: u32) -> Result<(), Refu
 
 fn push_load(e: &mut Emitter<'_>, op: Op, mask: Option<u32>)
     requires { Place 2 e.old }
-    ensures { Grows (L.load op mask) e.old e.new }
+    ensures lines { Grows (L.load op mask) e.old e.new }
+    ensures spared { Spared Success e.old e.new }
+    ensures lost_spared { Spared Failure e.old e.new }
 {
     e.add(Line::Plain(op));
     if let Some(m) = mask {
@@ -137,7 +142,8 @@ fn push_load(e: &mut Emitter<'_>, op: Op, mask: Option<u32>)
 
 fn check_load(e: &mut Emitter<'_>, op: Op, mask: Option<u32>, k: u32)
     requires { Space 3 e.old }
-    ensures { Grows (L.load op mask ++ (E.need k ∷ [])) e.old e.new }
+    ensures lines { Grows (L.load op mask ++ (E.need k ∷ [])) e.old e.new }
+    ensures spared { Spared Success e.old e.new }
 {
     push_load(e, op, mask);
     e.need(k);
@@ -178,6 +184,7 @@ pub trait Check {
         requires room { Space most e.old }
         requires place { off < 65536 }
         ensures lines { Grows (block self.now off) e.old e.new }
+        ensures spared { Spared Success e.old e.new }
         ensures short { length (block self.now off) ≤ most };
 
     // Its lines are far fewer than a jump goes over.
@@ -188,7 +195,8 @@ pub trait Check {
 #[tactic(auto, using(emit::proofs::Grow::none))]
 fn check_last(e: &mut Emitter<'_>, mask: u32, expected: u32, off: u32)
     requires { Space 3 e.old }
-    ensures { Grows (N.last_test mask expected off) e.old e.new }
+    ensures lines { Grows (N.last_test mask expected off) e.old e.new }
+    ensures spared { Spared Success e.old e.new }
 {
     if mask != 0 {
         check_load(e, Op::LdAbs(Width::Half, off), Some(mask), expected);
@@ -322,7 +330,8 @@ pub fn emit_net6(
 #[tactic(auto, using(crate::proofs::Starts::guarding), unfolding(codegen::specs::Emit::emit_primitive))]
 pub fn emit_ip_broadcast(e: &mut Emitter<'_>) -> Result<(), Refusal>
     requires { Space 4 e.old }
-    ensures { Replies (E.emit_primitive e.old.link IpBroadcast e.old.facts) e.old e.new result }
+    ensures answer { Replies (E.emit_primitive e.old.link IpBroadcast e.old.facts) e.old e.new result }
+    ensures spared { Spared Success e.old e.new }
 {
     emit_ethertype(e, IPV4)?;
     let n = net_offset(e.link);
@@ -333,7 +342,8 @@ pub fn emit_ip_broadcast(e: &mut Emitter<'_>) -> Result<(), Refusal>
 #[tactic(auto, using(crate::proofs::Starts::guarding), unfolding(codegen::specs::Emit::emit_primitive))]
 pub fn emit_ip_multicast(e: &mut Emitter<'_>) -> Result<(), Refusal>
     requires { Space 5 e.old }
-    ensures { Replies (E.emit_primitive e.old.link IpMulticast e.old.facts) e.old e.new result }
+    ensures answer { Replies (E.emit_primitive e.old.link IpMulticast e.old.facts) e.old e.new result }
+    ensures spared { Spared Success e.old e.new }
 {
     emit_ethertype(e, IPV4)?;
     let n = net_offset(e.link);
@@ -349,7 +359,8 @@ pub fn emit_ip_multicast(e: &mut Emitter<'_>) -> Result<(), Refusal>
 #[tactic(auto, using(crate::proofs::Starts::guarding), unfolding(codegen::specs::Emit::emit_primitive))]
 pub fn emit_ip6_multicast(e: &mut Emitter<'_>) -> Result<(), Refusal>
     requires { Space 4 e.old }
-    ensures { Replies (E.emit_primitive e.old.link Ip6Multicast e.old.facts) e.old e.new result }
+    ensures answer { Replies (E.emit_primitive e.old.link Ip6Multicast e.old.facts) e.old e.new result }
+    ensures spared { Spared Success e.old e.new }
 {
     emit_ethertype(e, IPV6)?;
     let n = net_offset(e.link);

@@ -19,7 +19,7 @@ use Rattle.codegen.specs.Emit.{Code, code}
 use Rattle.emit.specs.declared.Patch.{Patch}
 use Rattle.emit.specs.declared.Emitter.{Emitter}
 use Rattle.emit.specs.Lines.{assembled, exit_of, patch_of, pending, patches, writes}
-use Rattle.emit.specs.Grown.{Space, Room, Fits, Kept, Put, Waits, Grew, Grows}
+use Rattle.emit.specs.Grown.{Space, Room, Fits, Kept, Apart, Put, Waits, Grew, Grows}
 
 -- ---- what stays
 
@@ -73,6 +73,16 @@ one_line {e} {p} {f} l h w n = record {
   facts = w.facts ∙ h.facts;
   kept = kept_then h.kept (kept_knowing (p.x_writes + bool_byte (sets_x l)) f.facts w.kept);
 }
+
+-- a line leaves the rows that its jump does not wait in, as its instruction and its jump do
+pub one_apart : {e p f : Emitter} (l : Line) → Put (assemble l) e p
+    → Waits (exit_of l) (patch_of l e.count) (record p { x_writes = p.x_writes + bool_byte (sets_x l) }) f → Apart (exit_of l) e f
+one_apart {e} {p} {f} l h w = by (exit_of l) w.apart
+  where
+    by : (x : Exit) → Apart x (record p { x_writes = p.x_writes + bool_byte (sets_x l) }) f → Apart x e f
+    by (Skip d) a = (a.0 ∙ h.won_spared, a.1 ∙ h.lost_spared)
+    by (Leave Success) a = a ∙ h.lost_spared
+    by (Leave Failure) a = a ∙ h.won_spared
 
 -- ---- a block, and a block after it
 

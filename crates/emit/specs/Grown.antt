@@ -90,6 +90,19 @@ pub record Turned (e f : Emitter) : Type 0 where
   pub same_won : f.success.patches.ghost_name ≡ e.failure.patches.ghost_name
   pub same_lost : f.failure.patches.ghost_name ≡ e.success.patches.ghost_name
 
+-- ---- rows that stay whole
+
+-- the row of pending jumps by a side is as it was, past its length too
+abbrev pub Spared : Side → Emitter → Emitter → Type 0
+Spared Success e f = f.success.patches.now ≡ e.success.patches.now
+Spared Failure e f = f.failure.patches.now ≡ e.failure.patches.now
+
+-- the rows that a line with this exit leaves whole
+abbrev pub Apart : Exit → Emitter → Emitter → Type 0
+Apart (Skip d) e f = Spared Success e f × Spared Failure e f
+Apart (Leave Success) e f = Spared Failure e f
+Apart (Leave Failure) e f = Spared Success e f
+
 -- ---- one line
 
 -- an instruction stands at the end, if the lent row reaches so far
@@ -100,6 +113,8 @@ pub record Put (x : Insn) (e f : Emitter) : Type 0 where
   pub won_len : f.success.len ≡ e.success.len
   pub lost : waiting f.failure ≡ waiting e.failure
   pub lost_len : f.failure.len ≡ e.failure.len
+  pub won_spared : Spared Success e f
+  pub lost_spared : Spared Failure e f
   pub x_writes : f.x_writes ≡ e.x_writes
   pub facts : f.facts ≡ e.facts
   pub kept : Kept e f
@@ -112,6 +127,7 @@ pub record Waits (x : Exit) (q : Patch) (e f : Emitter) : Type 0 where
   pub won_len : f.success.len ≡ e.success.len + length (pending Success q x [])
   pub lost : waiting f.failure ≡ waiting e.failure ++ pending Failure q x []
   pub lost_len : f.failure.len ≡ e.failure.len + length (pending Failure q x [])
+  pub apart : Apart x e f
   pub x_writes : f.x_writes ≡ e.x_writes
   pub facts : f.facts ≡ e.facts
   pub kept : Kept e f

@@ -9,7 +9,7 @@ ghost use Rattle.codegen.specs.Facts.{no_facts};
 ghost use Rattle.codegen.specs.Block.{far_line};
 ghost use Rattle.codegen.specs.Emit as E;
 ghost use Rattle.emit.specs.Lines.{exit_of, patch_of, place_of, resolved, resolve, Below, waiting};
-ghost use Rattle.emit.specs.Grown.{Empty, Lent, Turned, Fits, Space, Put, Free, Waits, Grows, Settles, Open, Settled, Otherwise};
+ghost use Rattle.emit.specs.Grown.{Empty, Lent, Turned, Fits, Space, Spared, Apart, Put, Free, Waits, Grows, Settles, Open, Settled, Otherwise};
 
 use ast::LinkType;
 use bpf::Insn;
@@ -204,7 +204,8 @@ impl<'a> Emitter<'a> {
     #[inline(always)]
     pub fn add(&mut self, line: Line)
         requires { Fits line self.old }
-        ensures { Grows (line ∷ []) self.old self.new }
+        ensures lines { Grows (line ∷ []) self.old self.new }
+        ensures apart { Apart (exit_of line) self.old self.new }
     {
         let place = self.count as u16;
         self.put(line.assemble());
@@ -249,7 +250,8 @@ impl<'a> Emitter<'a> {
     #[inline(always)]
     pub fn need(&mut self, k: u32)
         requires { Space 1 self.old }
-        ensures { Grows (E.need k ∷ []) self.old self.new }
+        ensures lines { Grows (E.need k ∷ []) self.old self.new }
+        ensures spared { Spared Success self.old self.new }
     {
         self.add(Line::Branch(Test::Jeq, k, Slot::Jf, Exit::Leave(Side::Failure)));
     }
@@ -257,7 +259,8 @@ impl<'a> Emitter<'a> {
     // `check_byte`, `check_halfword`, `check_word`.
     pub fn check(&mut self, width: Width, off: u32, expected: u32)
         requires { Space 2 self.old }
-        ensures { Grows (E.check width off expected) self.old self.new }
+        ensures lines { Grows (E.check width off expected) self.old self.new }
+        ensures spared { Spared Success self.old self.new }
     {
         self.add(Line::Plain(Op::LdAbs(width, off)));
         self.need(expected);

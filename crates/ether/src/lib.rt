@@ -3,8 +3,9 @@
 
 ghost use Rattle.std.specs.Prelude.{◌≡◌};
 ghost use Rattle.ast.specs.declared.Primitive.TheVariants.{EtherMulticast};
+ghost use Rattle.codegen.specs.declared.Side.TheVariants.{Success};
 ghost use Rattle.codegen.specs.Emit as E;
-ghost use Rattle.emit.specs.Grown.{Room, Space, Replies};
+ghost use Rattle.emit.specs.Grown.{Room, Space, Spared, Replies};
 ghost use Rattle.conditions.specs.Loads as L;
 
 use ast::{Dir, LinkType};
@@ -37,7 +38,8 @@ fn turned(dir: Dir) -> Dir
 // A cooked capture has a sender's address and no other. Its length is tested first.
 fn emit_sender(e: &mut Emitter<'_>, dir: Dir, mac: &Mac) -> Result<(), Refusal>
     requires { Space 6 e.old }
-    ensures { Replies (E.unlearned (E.sender dir (L.mac_block mac.now.four mac.now.two 6)) e.old.facts) e.old e.new result }
+    ensures answer { Replies (E.unlearned (E.sender dir (L.mac_block mac.now.four mac.now.two 6)) e.old.facts) e.old e.new result }
+    ensures spared { Spared Success e.old e.new }
 {
     match dir {
         Dir::Src => {
@@ -68,7 +70,8 @@ pub fn emit_ether_host(e: &mut Emitter<'_>, dir: Dir, mac: &Mac) -> Result<(), R
 #[tactic(auto, unfolding(codegen::specs::Emit::ether, codegen::specs::Emit::emit_primitive))]
 pub fn emit_ether_multicast(e: &mut Emitter<'_>) -> Result<(), Refusal>
     requires { Space 2 e.old }
-    ensures { Replies (E.emit_primitive e.old.link EtherMulticast e.old.facts) e.old e.new result }
+    ensures answer { Replies (E.emit_primitive e.old.link EtherMulticast e.old.facts) e.old e.new result }
+    ensures spared { Spared Success e.old e.new }
 {
     match e.link {
         LinkType::Ethernet => {

@@ -4,6 +4,7 @@
 
 ghost use Rattle.std.specs.Prelude.{◌≡◌, [], ◌∷◌, None, Some, Ok, ◌+◌, ◌≤◌, length};
 ghost use Rattle.codegen.specs.Facts as F;
+ghost use Rattle.codegen.specs.declared.Side.TheVariants.{Success, Failure};
 ghost use Rattle.codegen.specs.declared.Width.TheVariants.{Half};
 ghost use Rattle.codegen.specs.declared.Op.TheVariants.{LdAbs, LdhInd};
 ghost use Rattle.codegen.specs.declared.Test.TheVariants.{Jeq};
@@ -11,7 +12,7 @@ ghost use Rattle.codegen.specs.declared.Exit.TheVariants.{Skip};
 ghost use Rattle.codegen.specs.declared.Slot.TheVariants.{Jt};
 ghost use Rattle.codegen.specs.declared.Line.TheVariants.{Plain, Branch};
 ghost use Rattle.codegen.specs.Emit as E;
-ghost use Rattle.emit.specs.Grown.{Room, Space, Place, Grew, Grows, Replies};
+ghost use Rattle.emit.specs.Grown.{Room, Space, Place, Spared, Grew, Grows, Replies};
 ghost use Rattle.conditions.specs.Loads as L;
 ghost use Rattle.ports.specs.Hoist as Q;
 ghost use Rattle.ports.specs.Hoist.{Follows};
@@ -52,7 +53,8 @@ fn l4_len(want: L4Set) -> u8
 #[tactic(auto, unfolding(codegen::specs::Emit::l4_set_check))]
 fn emit_l4_set_check(e: &mut Emitter<'_>, want: L4Set)
     requires { Space 2 e.old }
-    ensures { Grows (E.l4_set_check want) e.old e.new }
+    ensures lines { Grows (E.l4_set_check want) e.old e.new }
+    ensures spared { Spared Success e.old e.new }
 {
     match want {
         L4Set::One(n) => e.need(n),
@@ -66,7 +68,8 @@ fn emit_l4_set_check(e: &mut Emitter<'_>, want: L4Set)
 // The protocol byte is of the set.
 fn l4_check(e: &mut Emitter<'_>, version: Version, want: L4Set)
     requires { Space 3 e.old }
-    ensures { Grows (E.l4_check (E.net_offset e.old.link + L.proto_place version) want) e.old e.new }
+    ensures lines { Grows (E.l4_check (E.net_offset e.old.link + L.proto_place version) want) e.old e.new }
+    ensures spared { Spared Success e.old e.new }
 {
     let off = net_offset(e.link) + version.proto_place();
     e.add(Line::Plain(Op::LdAbs(Width::Byte, off)));
@@ -76,7 +79,8 @@ fn l4_check(e: &mut Emitter<'_>, version: Version, want: L4Set)
 // No later fragment, and X the header's length.
 fn header4(e: &mut Emitter<'_>)
     requires { Space 3 e.old }
-    ensures { Grows (E.header4 (E.net_offset e.old.link)) e.old e.new }
+    ensures lines { Grows (E.header4 (E.net_offset e.old.link)) e.old e.new }
+    ensures spared { Spared Success e.old e.new }
 {
     let n = net_offset(e.link);
     e.add(Line::Plain(Op::LdAbs(Width::Half, n + 6)));
@@ -88,7 +92,9 @@ fn header4(e: &mut Emitter<'_>)
 #[tactic(auto, unfolding(codegen::specs::Emit::header6))]
 fn header6(e: &mut Emitter<'_>)
     requires { Place 1 e.old }
-    ensures { Grows E.header6 e.old e.new }
+    ensures lines { Grows E.header6 e.old e.new }
+    ensures spared { Spared Success e.old e.new }
+    ensures lost_spared { Spared Failure e.old e.new }
 {
     e.add(Line::Plain(Op::LdxImm(HEADER6)));
 }
@@ -96,7 +102,8 @@ fn header6(e: &mut Emitter<'_>)
 // What X needs.
 fn header(e: &mut Emitter<'_>, version: Version)
     requires { Space 3 e.old }
-    ensures { Grows (L.header version (E.net_offset e.old.link)) e.old e.new }
+    ensures lines { Grows (L.header version (E.net_offset e.old.link)) e.old e.new }
+    ensures spared { Spared Success e.old e.new }
 {
     match version {
         Version::V4 => header4(e),
@@ -107,7 +114,8 @@ fn header(e: &mut Emitter<'_>, version: Version)
 // The protocol and then the header.
 fn path(e: &mut Emitter<'_>, version: Version, want: L4Set)
     requires { Space 6 e.old }
-    ensures { Grows (L.path version (E.net_offset e.old.link) want) e.old e.new }
+    ensures lines { Grows (L.path version (E.net_offset e.old.link) want) e.old e.new }
+    ensures spared { Spared Success e.old e.new }
 {
     l4_check(e, version, want);
     header(e, version);
@@ -116,7 +124,8 @@ fn path(e: &mut Emitter<'_>, version: Version, want: L4Set)
 // The ethertype: IPv6 goes d lines ahead, IPv4 falls through.
 fn fork(e: &mut Emitter<'_>, off: u32, d: u8)
     requires { Space 3 e.old }
-    ensures { Grows (Plain (LdAbs Half off) ∷ Branch Jeq 0x86dd Jt (Skip d) ∷ E.need 0x0800 ∷ []) e.old e.new }
+    ensures lines { Grows (Plain (LdAbs Half off) ∷ Branch Jeq 0x86dd Jt (Skip d) ∷ E.need 0x0800 ∷ []) e.old e.new }
+    ensures spared { Spared Success e.old e.new }
 {
     e.add(Line::Plain(Op::LdAbs(Width::Half, off)));
     e.add(Line::Branch(Test::Jeq, IPV6, Slot::Jt, Exit::Skip(d)));
@@ -126,7 +135,8 @@ fn fork(e: &mut Emitter<'_>, off: u32, d: u8)
 // The ethertype is not known: both versions.
 fn dual_path(e: &mut Emitter<'_>, off: u32, want: L4Set)
     requires { Space 14 e.old }
-    ensures { Grows (E.dual_path off (E.net_offset e.old.link) want) e.old e.new }
+    ensures lines { Grows (E.dual_path off (E.net_offset e.old.link) want) e.old e.new }
+    ensures spared { Spared Success e.old e.new }
 {
     let len = l4_len(want);
     fork(e, off, len + 6);
@@ -151,7 +161,8 @@ fn established(facts: Facts, version: Version, set: L4Set) -> Facts
 // it is not tested again.
 fn one_version(e: &mut Emitter<'_>, version: Version, want: L4Set)
     requires { Space 6 e.old }
-    ensures { Grew (Q.version_for e.old.link version want e.old.facts) e.old e.new }
+    ensures lines { Grew (Q.version_for e.old.link version want e.old.facts) e.old e.new }
+    ensures spared { Spared Success e.old e.new }
 {
     let set = match (e.facts.ports_ready, version.proto_fact(e.facts)) {
         (Some(_), _) => {
@@ -174,7 +185,8 @@ fn one_version(e: &mut Emitter<'_>, version: Version, want: L4Set)
 #[tactic(auto, using(emit::proofs::Grow::none))]
 fn dual(e: &mut Emitter<'_>, want: L4Set)
     requires { Space 14 e.old }
-    ensures { Grew (E.dual (E.ether_proto_offset e.old.link) (E.net_offset e.old.link) want e.old.facts) e.old e.new }
+    ensures lines { Grew (E.dual (E.ether_proto_offset e.old.link) (E.net_offset e.old.link) want e.old.facts) e.old e.new }
+    ensures spared { Spared Success e.old e.new }
 {
     if let Some(off) = ether_proto_offset(e.link) {
         dual_path(e, off, want);
@@ -186,7 +198,8 @@ fn dual(e: &mut Emitter<'_>, want: L4Set)
 #[tactic(auto, using(emit::proofs::Grow::none), unfolding(codegen::specs::Emit::port_prereqs))]
 pub fn emit_port_prereqs_set(e: &mut Emitter<'_>, want: L4Set)
     requires { Space 14 e.old }
-    ensures { Grew (E.port_prereqs e.old.link want e.old.facts) e.old e.new }
+    ensures lines { Grew (E.port_prereqs e.old.link want e.old.facts) e.old e.new }
+    ensures spared { Spared Success e.old e.new }
 {
     if ready_for(e.facts.ports_ready, want) {
         return;
@@ -228,7 +241,8 @@ pub fn emit_portrange(e: &mut Emitter<'_>, dir: Dir, want: L4Set, range: &Range)
 // An ethertype, but none on a raw link.
 fn hoist_ethertype(e: &mut Emitter<'_>, ethertype: Option<u32>) -> Result<(), Refusal>
     requires { Space 2 e.old }
-    ensures { Follows (Q.hoist_ethertype ethertype e.old.link) e.old e.new result }
+    ensures step { Follows (Q.hoist_ethertype ethertype e.old.link) e.old e.new result }
+    ensures spared { Spared Success e.old e.new }
 {
     match ethertype {
         Some(et) if e.link != LinkType::RawIp => emit_ethertype(e, et),
@@ -239,7 +253,8 @@ fn hoist_ethertype(e: &mut Emitter<'_>, ethertype: Option<u32>) -> Result<(), Re
 // A protocol.
 fn hoist_l4(e: &mut Emitter<'_>, version: Version, proto: Option<u32>) -> Result<(), Refusal>
     requires { Space 4 e.old }
-    ensures { Follows (Q.hoist_l4 version proto e.old.link) e.old e.new result }
+    ensures step { Follows (Q.hoist_l4 version proto e.old.link) e.old e.new result }
+    ensures spared { Spared Success e.old e.new }
 {
     match proto {
         Some(n) => emit_l4(e, version, n),
@@ -251,7 +266,8 @@ fn hoist_l4(e: &mut Emitter<'_>, version: Version, proto: Option<u32>) -> Result
 #[tactic(auto, using(crate::proofs::Hoisting::ports_follow))]
 fn hoist_ports(e: &mut Emitter<'_>, ports: Option<L4Set>)
     requires { Space 14 e.old }
-    ensures { Follows (E.hoist_ports e.old.link ports) e.old e.new (Ok tt) }
+    ensures step { Follows (E.hoist_ports e.old.link ports) e.old e.new (Ok tt) }
+    ensures spared { Spared Success e.old e.new }
 {
     if let Some(want) = ports {
         emit_port_prereqs_set(e, want);
@@ -261,7 +277,8 @@ fn hoist_ports(e: &mut Emitter<'_>, ports: Option<L4Set>)
 // The guards that both sides of an or require, emitted once in front of it.
 pub fn emit_or_hoist(e: &mut Emitter<'_>, guards: GuardSet) -> Result<(), Refusal>
     requires { Space 24 e.old }
-    ensures { Replies (E.or_hoist e.old.link guards e.old.facts) e.old e.new result }
+    ensures answer { Replies (E.or_hoist e.old.link guards e.old.facts) e.old e.new result }
+    ensures spared { Spared Success e.old e.new }
 {
     hoist_ethertype(e, guards.ethertype)?;
     hoist_l4(e, Version::V4, guards.ip4_proto)?;

@@ -1,5 +1,5 @@
 use Rattle.emit.proofs.Grow.{grows_then}
 use Rattle.conditions.proofs.check_load.Goals as goal
 
-pub returns : goal.returns
-returns c = grows_then c.push_load.ensures c.need.ensures
+pub returns-clause-lines : goal.returns-clause-lines
+returns-clause-lines c = grows_then c.push_load.ensures.lines c.need.ensures.lines

@@ -1,5 +1,5 @@
 use Rattle.emit.proofs.Grow.{grows_then}
 use Rattle.conditions.proofs.push_load.Goals as goal
 
-pub returns-in-Some : goal.returns-in-Some
-returns-in-Some c = rw c.in-Some.is (grows_then c.add.ensures c.add-in-Some.ensures)
+pub returns-in-Some-clause-lines : goal.returns-in-Some-clause-lines
+returns-in-Some-clause-lines c = rw c.in-Some.is (grows_then c.add.ensures.lines c.add-in-Some.ensures.lines)

@@ -18,26 +18,26 @@ left n want {f = f} h s p q =
 
 pub add-requires : goal.add-requires
 add-requires c =
-    let s = left _ c.args.want (omega arith) c.requires c.fork.ensures c.path.ensures in
+    let s = left _ c.args.want (omega arith) c.requires c.fork.ensures.lines c.path.ensures.lines in
     record { insns = omega (arith, s.insns); writings = omega (arith, s.writings); free = tt }
 
 pub l4_check-requires : goal.l4_check-requires
 l4_check-requires c =
-    let s = left _ c.args.want (omega arith) c.requires c.fork.ensures c.path.ensures in
-    space_left 1 (omega arith) s (sized 1 (omega arith) c.add.ensures)
+    let s = left _ c.args.want (omega arith) c.requires c.fork.ensures.lines c.path.ensures.lines in
+    space_left 1 (omega arith) s (sized 1 (omega arith) c.add.ensures.lines)
 
 pub header6-requires : goal.header6-requires
 header6-requires c =
-    let s = left _ c.args.want (omega arith) c.requires c.fork.ensures c.path.ensures in
-    let over = sized 1 (omega arith) c.add.ensures in
-    let check = sized 3 (l4_short _ c.args.want) c.l4_check.ensures in
+    let s = left _ c.args.want (omega arith) c.requires c.fork.ensures.lines c.path.ensures.lines in
+    let over = sized 1 (omega arith) c.add.ensures.lines in
+    let check = sized 3 (l4_short _ c.args.want) c.l4_check.ensures.lines in
     record { insns = omega (arith, s.insns, over.insns, check.insns); writings = omega (arith, s.writings, over.writings, check.writings) }
 
-pub returns : goal.returns
-returns c =
+pub returns-clause-lines : goal.returns-clause-lines
+returns-clause-lines c =
     let a = c.args in
     let want = a.want in
-    let fork4 = then_at (λ n. path V4 n want) c.fork.ensures c.path.ensures in
-    let over = grows_then fork4 c.add.ensures in
-    let both = then_at (λ n. l4_check (n + 6) want) over c.l4_check.ensures in
-    rw (← dual_parts a.off (net_offset a.e.now.link) c.l4_len-len.result want c.l4_len-len.ensures.length) (grows_then both c.header6.ensures)
+    let fork4 = then_at (λ n. path V4 n want) c.fork.ensures.lines c.path.ensures.lines in
+    let over = grows_then fork4 c.add.ensures.lines in
+    let both = then_at (λ n. l4_check (n + 6) want) over c.l4_check.ensures.lines in
+    rw (← dual_parts a.off (net_offset a.e.now.link) c.l4_len-len.result want c.l4_len-len.ensures.length) (grows_then both c.header6.ensures.lines)

@@ -6,5 +6,5 @@ use Rattle.ports.proofs.emit_portrange.Goals as goal
 pub returns : goal.returns
 returns c =
     let a = c.args in
-    then_at (λ n. check_blocks a.dir (check_range a.range.now.low a.range.now.high n) (check_range a.range.now.low a.range.now.high (n + 2))) c.emit_port_prereqs_set.ensures
+    then_at (λ n. check_blocks a.dir (check_range a.range.now.low a.range.now.high n) (check_range a.range.now.low a.range.now.high (n + 2))) c.emit_port_prereqs_set.ensures.lines
     (rw c.net_offset-n.ensures.offset at c.check_sides.ensures)

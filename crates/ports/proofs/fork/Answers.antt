@@ -1,5 +1,5 @@
 use Rattle.emit.proofs.Grow.{grows_then}
 use Rattle.ports.proofs.fork.Goals as goal
 
-pub returns : goal.returns
-returns c = grows_then (grows_then c.add.ensures c.add-2.ensures) c.need.ensures
+pub returns-clause-lines : goal.returns-clause-lines
+returns-clause-lines c = grows_then (grows_then c.add.ensures.lines c.add-2.ensures.lines) c.need.ensures.lines

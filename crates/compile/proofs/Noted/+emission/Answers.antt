@@ -73,7 +73,7 @@ emit_or-returns-in_err-emit_or_hoist t c =
     let a = c.args in
     let p = c.requires.parts in
     let g = noted_guards c.requires.walk p ∙ ap required_guards p.tree in
-    handed_on c.from_residual.ensures.1 (rw p.tree (or_refused a.e.now.link _ _ a.e.now.facts (reply_refused (rw g at c.emit_or_hoist.ensures) c.in_err-emit_or_hoist.was) c.emit_or_hoist.ensures.kept))
+    handed_on c.from_residual.ensures.1 (rw p.tree (or_refused a.e.now.link _ _ a.e.now.facts (reply_refused (rw g at c.emit_or_hoist.ensures.answer) c.in_err-emit_or_hoist.was) c.emit_or_hoist.ensures.answer.kept))
 
 pub emit_or-emit_arms-requires : goal.emit_or-emit_arms-requires
 emit_or-emit_arms-requires t c =
@@ -81,7 +81,7 @@ emit_or-emit_arms-requires t c =
     let v = c.requires.walk in
     let p = c.requires.parts in
     let s = ap weight p.tree in
-    let w = reply_done (rw (noted_guards v p) at c.emit_or_hoist.ensures) c.in_ok-emit_or_hoist.was in
+    let w = reply_done (rw (noted_guards v p) at c.emit_or_hoist.ensures.answer) c.in_ok-emit_or_hoist.was in
     (omega arith, (v, (p, room_left 24 (omega (arith, s)) c.requires.room (hoist_sized a.e.now.link (tree_of a.self.tree.now a.i) a.e.now.facts v.proper w))))
 
 pub emit_or-returns : goal.emit_or-returns
@@ -89,7 +89,7 @@ emit_or-returns t c =
     let a = c.args in
     let p = c.requires.parts in
     let g = noted_guards c.requires.walk p ∙ ap required_guards p.tree in
-    let w = reply_done (rw g at c.emit_or_hoist.ensures) c.in_ok-emit_or_hoist.was in
+    let w = reply_done (rw g at c.emit_or_hoist.ensures.answer) c.in_ok-emit_or_hoist.was in
     rw p.tree (or_done a.e.now.link _ _ a.e.now.facts w (arms_by _ _ _ w.grew.kept.link c.emit_arms.ensures))
 
 -- ---- the arms of an or

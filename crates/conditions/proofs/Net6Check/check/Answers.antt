@@ -1,4 +1,4 @@
-use Rattle.std.proofs.Common.{rules, arith, ◌≡◌, ◌+◌, ◌*◌, length}
+use Rattle.std.proofs.Common.{rules, arith, ◌≡◌, ◌∙◌, ◌+◌, ◌*◌, length}
 use Rattle.emit.proofs.Grow.{sized, sized_then, none, grows_then}
 use Rattle.conditions.proofs.Nets.{tests_more, tests_last, tests_end}
 use Rattle.conditions.proofs.Net6Check.check.Goals as goal
@@ -11,7 +11,7 @@ returns-then-mask-clause-lines c =
     let n : length w.masks ≡ 8 = search rules in
     let m : length w.expected ≡ 8 = search rules in
     l.invariant.rest _
-    (rw (tests_last w.masks w.expected (c.args.off + 2 * l.i) l.i (omega arith) (omega arith) c.if-mask.true, ← c.from.ensures, ← c.from-expected.ensures) c.check_last.ensures)
+    (rw (tests_last w.masks w.expected (c.args.off + 2 * l.i) l.i (omega arith) (omega arith) c.if-mask.true, ← c.from.ensures, ← c.from-expected.ensures) c.check_last.ensures.lines)
 
 pub loop-i-preserved : goal.loop-i-preserved
 loop-i-preserved c =
@@ -23,10 +23,11 @@ loop-i-preserved c =
     let place : c.args.off + 2 * (l.i + 1) ≡ c.args.off + 2 * l.i + 2 = omega arith in
     record {
       most = omega arith;
-      size = sized_then ((l.i + 1) * 2) (omega arith) l.invariant.size (sized 2 (omega arith) c.check.ensures);
+      size = sized_then ((l.i + 1) * 2) (omega arith) l.invariant.size (sized 2 (omega arith) c.check.ensures.lines);
+      spared = c.check.ensures.spared ∙ l.invariant.spared;
       rest = λ f g. l.invariant.rest f
           (rw (tests_more w.masks w.expected (c.args.off + 2 * l.i) l.i (omega arith) (omega arith) c.if-mask.false, ← c.from-expected.ensures)
-          (grows_then c.check.ensures (rw place at g)));
+          (grows_then c.check.ensures.lines (rw place at g)));
     }
 
 pub returns-clause-lines : goal.returns-clause-lines

@@ -4,4 +4,4 @@ use Rattle.conditions.proofs.RangeCheck.check.Goals as goal
 
 pub returns-clause-lines : goal.returns-clause-lines
 unfolding check_range
-returns-clause-lines c = grows_then c.add.ensures (grows_then c.add-2.ensures c.add-3.ensures)
+returns-clause-lines c = grows_then c.add.ensures.lines (grows_then c.add-2.ensures.lines c.add-3.ensures.lines)

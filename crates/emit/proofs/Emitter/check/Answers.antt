@@ -1,5 +1,5 @@
 use Rattle.emit.proofs.Grow.{grows_then}
 use Rattle.emit.proofs.Emitter.check.Goals as goal
 
-pub returns : goal.returns
-returns c = grows_then c.add.ensures c.need.ensures
+pub returns-clause-lines : goal.returns-clause-lines
+returns-clause-lines c = grows_then c.add.ensures.lines c.need.ensures.lines
