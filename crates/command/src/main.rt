@@ -1,7 +1,7 @@
 // The program of bin/pft.
 #![tactic(auto)]
 
-use frames::{Ended, Session};
+use frames::{Arguments, CommandLine, Session};
 
 fn main(rt: HostRuntime) {
     let session = Session {
@@ -9,12 +9,9 @@ fn main(rt: HostRuntime) {
         answers: rt.stdout(),
         messages: rt.stderr(),
     };
-    let ended = match frames::arguments(&rt) {
-        Ok(arguments) => session.pft(arguments.get(1..).unwrap_or(&[])),
-        Err(error) => {
-            let _ = eprintln!(&rt; "arguments: cannot be read, {error}");
-            Ended::Failed
-        }
+    let arguments = Arguments {
+        first: 1,
+        end: frames::argument_count(&rt),
     };
-    frames::tell(ended);
+    frames::tell(session.pft(&CommandLine::read(&rt, arguments)));
 }

@@ -1,25 +1,20 @@
 // What `pft` says, answers and messages on standard output, and its exit status, for each of several groups of arguments. A group ends with `;`.
 #![tactic(auto)]
 
-use frames::{Argument, Session};
+use frames::{Arguments, CommandLine, Session, CommandWord};
 use std::io::{Print, Result};
 
-// Whether an argument ends a group.
-fn is_end(argument: &Argument) -> bool {
-    argument.word() == b";".as_slice()
-}
-
 // Writes the arguments of a group. One that is longer than a path shows as nothing.
-fn put_words(rt: &HostRuntime, group: &[Argument]) -> Result<()> {
-    for argument in group {
+fn put_words(rt: &HostRuntime, group: Arguments) -> Result<()> {
+    for i in group.first..group.end {
         rt.write_all(b" ")?;
-        rt.write_all(argument.word())?;
+        rt.write_all(CommandWord::read(rt, i).bytes())?;
     }
     Ok(())
 }
 
 // The group's arguments, then what `pft` says of them.
-fn answer(rt: &HostRuntime, group: &[Argument]) -> Result<()> {
+fn answer(rt: &HostRuntime, group: Arguments) -> Result<()> {
     print!(rt; "# pft")?;
     put_words(rt, group)?;
     print!(rt; "\n")?;
@@ -28,19 +23,17 @@ fn answer(rt: &HostRuntime, group: &[Argument]) -> Result<()> {
         answers: rt.stdout(),
         messages: rt.stdout(),
     };
-    let status = session.pft(group) as u8;
+    let status = session.pft(&CommandLine::read(rt, group)) as u8;
     println!(rt; "status {status}")
 }
 
 fn main(rt: HostRuntime) -> Result<()> {
-    let arguments = frames::arguments(&rt)?;
-    let words = arguments.get(1..).unwrap_or(&[]);
-    for group in words.split_inclusive(is_end) {
-        // What stands behind the last end is no group.
-        if let Some((last, group)) = group.split_last() {
-            if is_end(last) {
-                answer(&rt, group)?;
-            }
+    let mut first = 1;
+    // What stands behind the last end is no group.
+    for end in 1..frames::argument_count(&rt) {
+        if CommandWord::read(&rt, end).bytes() == b";".as_slice() {
+            answer(&rt, Arguments { first, end })?;
+            first = end + 1;
         }
     }
     Ok(())

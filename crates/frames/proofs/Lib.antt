@@ -1,4 +1,3 @@
 pub mod Built
 pub mod Commands
-pub mod Numbered
 pub mod Spelled

@@ -1,23 +1,29 @@
--- Arguments as words of the command line: the commands and the links.
-use Rattle.std.specs.Prelude.{◌≡◌, ℕ, List, [], ◌∷◌, codes, Option, None, Some, Vec, length, nat_le, if◌then◌else◌, slice_get, IfSome}
-use Rattle.frames.specs.declared.argument.Argument.{Argument}
+-- Arguments by number, and as words of the command line: the commands and the links.
+use Rattle.std.specs.Prelude.{◌≡◌, ◌<◌, ◌-◌, ℕ, zero, suc, List, [], ◌∷◌, codes, take}
+use Rattle.frames.specs.declared.argument.Arguments.{Arguments}
+use Rattle.frames.specs.declared.argument.CommandWord.{CommandWord}
+use Rattle.frames.specs.declared.argument.CommandLine.{CommandLine}
 
--- the bytes of an argument where it has at most so many, and otherwise none
-abbrev pub bytes_up_to : {A : Type 0} → ℕ → Option (Vec ℕ A) → List ℕ
-bytes_up_to n None = []
-bytes_up_to n (Some v) = if nat_le (length v.items) n then v.items else []
+-- how many there are from one number up to another
+abbrev pub count_of : Arguments → ℕ
+count_of a = a.end - a.first
 
--- as a word; one that is longer than a path is an empty one
-abbrev pub word_of : Argument → List ℕ
-word_of a = bytes_up_to 4096 a.bytes
+-- as a word; it stands at the start of its room
+abbrev pub word_of : CommandWord → List ℕ
+word_of w = take w.size w.room
+
+-- the command, or the word behind it
+abbrev pub word_at : CommandLine → ℕ → List ℕ
+word_at l zero = word_of l.command
+word_at l (suc _) = word_of l.second
 
 -- what holds of the word at a place, where there is one
-abbrev pub IfWord : List Argument → ℕ → (List ℕ → Type 0) → Type 0
-IfWord arguments k P = IfSome (slice_get arguments k) (λ a. P (word_of a))
+abbrev pub IfWord : CommandLine → ℕ → (List ℕ → Type 0) → Type 0
+IfWord l k P = k < count_of l.arguments → P (word_at l k)
 
 -- what holds where this is the command
-abbrev pub IfCommand : List Argument → List ℕ → Type 0 → Type 0
-IfCommand arguments command P = IfWord arguments 0 (λ w. w ≡ command → P)
+abbrev pub IfCommand : CommandLine → List ℕ → Type 0 → Type 0
+IfCommand l command P = IfWord l 0 (λ w. w ≡ command → P)
 
 abbrev pub commands : List (List ℕ)
 commands = codes "type" ∷ codes "list" ∷ codes "size" ∷ codes "run" ∷ codes "count" ∷ []

@@ -1,72 +1,18 @@
-// The program's arguments. Argument 0 is the program's name.
-ghost use Rattle.std.specs.Prelude.{◌≡◌, ◌≤◌, ◌<◌, ℕ, [], length, slice_index_or, IfOk, IfErr};
+// The program's arguments, which are read by number where they are needed. Argument 0 is the program's name.
+ghost use Rattle.std.specs.Prelude.{◌≡◌, ◌≤◌, ◌<◌, ◌+◌, ◌↔◌, length, take, IsTrue, IfOk, IfSome, IfNone};
 ghost use Rattle.io.specs.Counts.{IsPrefixLen};
-ghost use Rattle.frames.specs.declared.argument.Argument.{Argument};
 
 use std::env::FillError;
-use std::io::{Error, Result};
+use std::io::{Error, ErrorKind, Result};
 use std::rt::Env;
 
 // The most bytes of a file's name.
-const PATH: usize = 4096;
-
-// Room for the longest argument that Linux passes, 131,071 bytes.
-const ROOM: usize = 131072;
+pub(crate) const PATH: usize = 4096;
 
 // Linux's number of a name that is too long: its kind is also that of one that is no text.
 const ENAMETOOLONG: i32 = 36;
 
-// An argument, by its number. Its bytes need not be text; a longer one than there is room for has none.
-#[derive(Drop)]
-pub struct Argument {
-    pub number: usize,
-    bytes: Option<Vec<u8>>,
-}
-
-impl Argument {
-    ghost use Rattle.frames.specs.Words.{bytes_up_to, word_of};
-
-    fn up_to(&self, most: usize) -> Result<&[u8]>
-        ensures bound { IfOk result (λ bytes. length bytes.now ≤ most) }
-        ensures whole { IfOk result (λ bytes. bytes.now ≡ bytes_up_to most self.now.bytes) }
-        ensures none { IfErr result (λ _. bytes_up_to most self.now.bytes ≡ []) }
-    {
-        match &self.bytes {
-            Some(bytes) if bytes.len() <= most => Ok(bytes.as_slice()),
-            _ => Err(Error::from_raw_os_error(ENAMETOOLONG)),
-        }
-    }
-
-    // As a file's name.
-    pub(crate) fn path(&self) -> Result<&[u8]>
-        ensures bound { IfOk result (λ bytes. length bytes.now ≤ 4096) }
-        ensures whole { IfOk result (λ bytes. bytes.now ≡ word_of self.now) }
-        ensures none { IfErr result (λ _. word_of self.now ≡ []) }
-    {
-        self.up_to(PATH)
-    }
-
-    // As a typed line.
-    pub(crate) fn line(&self) -> Result<&[u8]> {
-        self.up_to(ROOM)
-    }
-
-    // As a word of the command. One that is longer than a path counts as an empty one.
-    pub fn word(&self) -> &[u8]
-        ensures bound { length result.now ≤ 4096 }
-        ensures whole { result.now ≡ word_of self.now }
-    {
-        self.path().unwrap_or(b"")
-    }
-
-    // Whether it is an option: `-` alone is none.
-    pub(crate) fn is_option(&self) -> bool {
-        let word = self.word();
-        word.len() > 1 && word.starts_with(b"-")
-    }
-}
-
-// ---- in lent memory
+// ---- one argument
 
 // How many there are.
 pub fn argument_count(env: &impl Env) -> usize {
@@ -76,6 +22,17 @@ pub fn argument_count(env: &impl Env) -> usize {
         }
     }
     usize::MAX
+}
+
+// Puts an argument at the start of a buffer, and answers its bytes, which need not be text.
+pub(crate) fn argument<'a>(env: &impl Env, i: usize, buffer: &'a mut [u8]) -> Result<&'a [u8]>
+    ensures { IfOk result (λ bytes. length bytes.now ≤ length buffer.old) }
+{
+    match env.arg(i, buffer) {
+        Ok(n) => Ok(&buffer[..n]),
+        Err(FillError::TooLong) => Err(Error::from_raw_os_error(ENAMETOOLONG)),
+        Err(FillError::NotPresent) => Err(Error::from(ErrorKind::InvalidInput)),
+    }
 }
 
 // Puts an argument at the start of a buffer, and answers its length. One that has no room counts as an empty one.
@@ -88,32 +45,97 @@ pub fn word(env: &impl Env, i: usize, buffer: &mut [u8]) -> usize
     }
 }
 
-// ---- in memory of their own
+// A word of the command as it was read, by its number. One that is longer than a path counts as an empty one.
+#[derive(Drop)]
+pub struct CommandWord {
+    pub number: usize,
+    room: [u8; PATH],
+    size: usize,
+    ghost bound: { size ≤ 4096 },
+}
 
-// The bytes of an argument that is longer than a path, where there is room for them.
-fn long_bytes(rt: &(impl Env + AllocGlobal), number: usize) -> Result<Option<Vec<u8>>> {
-    let mut room = [0u8; ROOM];
-    match rt.arg(number, &mut room) {
-        Ok(n) => Ok(Some(Vec::from_slice(rt.alloc(), &room[..n])?)),
-        Err(_) => Ok(None),
+impl CommandWord {
+    ghost use Rattle.frames.specs.Words.{word_of};
+
+    pub fn read(env: &impl Env, number: usize) -> CommandWord
+        ensures { result.number ≡ number }
+    {
+        let mut room = [0; PATH];
+        let size = word(env, number, &mut room);
+        CommandWord { number, room, size }
+    }
+
+    pub fn bytes(&self) -> &[u8]
+        ensures bound { length result.now ≤ 4096 }
+        ensures whole { result.now ≡ word_of self.now }
+    {
+        &self.room[..self.size]
+    }
+
+    // Whether it is an option: `-` alone is none.
+    pub(crate) fn is_option(&self) -> bool {
+        let bytes = self.bytes();
+        bytes.len() > 1 && bytes.starts_with(b"-")
     }
 }
 
-// They stand in as much memory as they fill.
-pub fn arguments(rt: &(impl Env + AllocGlobal)) -> Result<Vec<Argument>>
-    ensures { IfOk result (λ all. (k : ℕ) (d : Argument) → k < length all.items → (slice_index_or all.items k d).number ≡ k) }
-{
-    let mut all = Vec::with_capacity(rt.alloc(), argument_count(rt))?;
-    let mut room = [0u8; PATH];
-    for number in 0..usize::MAX {
-        let bytes = match rt.arg(number, &mut room) {
-            Ok(n) => Some(Vec::from_slice(rt.alloc(), &room[..n])?),
-            Err(FillError::TooLong) => long_bytes(rt, number)?,
-            Err(FillError::NotPresent) => break,
-        };
-        all.push(Argument { number, bytes })?;
+// ---- several arguments
+
+// The arguments from one number up to another.
+#[derive(Clone, Copy)]
+pub struct Arguments {
+    pub first: usize,
+    pub end: usize,
+}
+
+impl Arguments {
+    ghost use Rattle.frames.specs.Words.{count_of};
+
+    pub const NONE: Arguments = Arguments { first: 0, end: 0 };
+
+    pub fn is_empty(self) -> bool
+        ensures { IsTrue result ↔ (count_of self ≡ 0) }
+    {
+        self.end <= self.first
     }
-    Ok(all)
+
+    // The first's number, and the others.
+    pub(crate) fn split_first(self) -> Option<(usize, Arguments)>
+        ensures some { IfSome result (λ split. (self.first < self.end) × (split.0 ≡ self.first)
+            × (split.1.first ≡ self.first + 1) × (split.1.end ≡ self.end)) }
+        ensures none { IfNone result (count_of self ≡ 0) }
+    {
+        if self.is_empty() {
+            return None;
+        }
+        let others = Arguments {
+            first: self.first + 1,
+            end: self.end,
+        };
+        Some((self.first, others))
+    }
+}
+
+// A command line: its arguments, of which the first two stand here as words, since they tell what is asked for.
+#[derive(Drop)]
+pub struct CommandLine {
+    pub(crate) arguments: Arguments,
+    pub(crate) command: CommandWord,
+    pub(crate) second: CommandWord,
+}
+
+impl CommandLine {
+    pub fn read(env: &impl Env, arguments: Arguments) -> CommandLine
+        ensures arguments { result.arguments ≡ arguments }
+        ensures command { result.command.number ≡ arguments.first }
+        ensures second { arguments.first < arguments.end → result.second.number ≡ arguments.first + 1 }
+    {
+        CommandLine {
+            arguments,
+            command: CommandWord::read(env, arguments.first),
+            second: CommandWord::read(env, arguments.first.saturating_add(1)),
+        }
+    }
 }
 
 #[cfg(test)]
@@ -123,8 +145,9 @@ mod tests {
 
     #[test]
     fn the_name_is_an_argument(rt: HostRuntime) -> std::result::Result<(), Fail> {
-        let all = arguments(&rt)?;
-        assert!(rt; !all.is_empty());
+        assert!(rt; argument_count(&rt) > 0);
+        let name = CommandWord::read(&rt, 0);
+        assert!(rt; !name.bytes().is_empty());
         Ok(())
     }
 }

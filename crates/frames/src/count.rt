@@ -1,9 +1,10 @@
 // `pft count`: what is answered of a capture, how many of its frames a program keeps.
 ghost use Rattle.std.specs.Prelude.{◌≡◌, ◌<◌, length};
+ghost use Rattle.frames.specs.Words.{count_of};
 
-use crate::argument::Argument;
+use crate::argument::Arguments;
 use crate::said::{LinkName, Name, Refused};
-use crate::tree::{Behind, TREE_BYTES};
+use crate::tree::{Behind, Room};
 use crate::{Ended, PROGRAM_BYTES, Session, Work, program_of};
 use ast::LinkType;
 use capture::{Halt, Tally};
@@ -12,7 +13,7 @@ use files::Source;
 use std::fmt;
 use std::fmt::{Display, Formatter, Write};
 use std::io::{Input, Print};
-use std::rt::Files;
+use std::rt::{Env, Files};
 
 // Room for the longest frame with its header, 65,551 bytes, and for many others in one read.
 const ROOM: usize = 262144;
@@ -53,7 +54,7 @@ impl Display for Stopped<'_> {
     }
 }
 
-impl<R: Files + Input, A: Print, M: Print> Session<'_, R, A, M> {
+impl<R: Env + Files + Input, A: Print, M: Print> Session<'_, R, A, M> {
     fn kept(&self, name: Name, tally: Tally, of: &str) -> Work<Ended> {
         let Tally { kept, given, .. } = tally;
         self.answer(name, format_args!("kept {kept} {of} {given} frames"))
@@ -105,10 +106,10 @@ impl<R: Files + Input, A: Print, M: Print> Session<'_, R, A, M> {
     }
 
     // A tree, and the captures whose frames its program counts.
-    pub(crate) fn count(&self, arguments: &[Argument]) -> Work<Ended>
-        ensures { length arguments.now < 2 → result ≡ Err Ended.Usage }
+    pub(crate) fn count(&self, arguments: Arguments) -> Work<Ended>
+        ensures { count_of arguments < 2 → result ≡ Err Ended.Usage }
     {
-        let mut room = [0u8; TREE_BYTES];
+        let mut room = Room::new();
         let given = self.tree(arguments, Behind::Files, &mut room)?;
         let mut program = [0u8; PROGRAM_BYTES];
         let program = match program_of(given.tree, &mut program) {

@@ -1,9 +1,9 @@
 // What `pft` answers and says: its subcommands over trees, which are files or typed lines, frame files and captures by name.
 #![tactic(auto)]
 
-ghost use Rattle.std.specs.Prelude.{◌≡◌, ◌≢◌, ◌<◌, length, Contains, MatchResult, codes, Err, IfOk, IfErr};
+ghost use Rattle.std.specs.Prelude.{◌≡◌, ◌≢◌, ◌<◌, Contains, MatchResult, codes, Err, IfOk, IfErr};
 ghost use Rattle.build.specs.Build.{build};
-ghost use Rattle.frames.specs.Words.{IfCommand, IfWord, commands, links, over_frames};
+ghost use Rattle.frames.specs.Words.{IfCommand, IfWord, commands, count_of, links, over_frames, word_of};
 ghost use Rattle.frames.specs.Endings.{NotUsage};
 ghost use Rattle.frames.specs.Program.{IsProgram};
 
@@ -18,7 +18,7 @@ mod size;
 mod tree;
 mod typed;
 
-pub use argument::{Argument, argument_count, arguments, word};
+pub use argument::{Arguments, CommandLine, CommandWord, argument_count, word};
 use ended::Work;
 pub use ended::{Ended, STATUS_FILENO, tell, tell_on};
 use error::Refusal;
@@ -26,8 +26,8 @@ use said::{Name, Reason, Refused, Unread};
 use std::fmt::Display;
 use std::io;
 use std::io::{Error, Input, Print};
-use std::rt::Files;
-use tree::{Behind, TREE_BYTES};
+use std::rt::{Env, Files};
+use tree::{Behind, Room};
 
 // The most bytes of a program: it has at most 4,096 instructions.
 const PROGRAM_BYTES: usize = 32768;
@@ -94,24 +94,24 @@ fn program_of<'a>(tree: &[u8], room: &'a mut [u8; PROGRAM_BYTES]) -> Result<&'a 
     Ok(&room[..8 * count as usize])
 }
 
-impl<R: Files + Input, A: Print, M: Print> Session<'_, R, A, M> {
-    fn subcommand(&self, arguments: &[Argument]) -> Work<Ended>
-        ensures none { length arguments.now ≡ 0 → result ≡ Err Ended.Usage }
-        ensures unknown { IfWord arguments.now 0 (λ command. ¬ Contains commands command → result ≡ Err Ended.Usage) }
-        ensures line { IfCommand arguments.now (codes "type") (length arguments.now ≢ 3 → result ≡ Err Ended.Usage) }
-        ensures link { IfCommand arguments.now (codes "type")
-            (IfWord arguments.now 1 (λ link. ¬ Contains links link → result ≡ Err Ended.Usage)) }
-        ensures typed { IfCommand arguments.now (codes "type")
-            (length arguments.now ≡ 3 → IfWord arguments.now 1 (λ link. Contains links link → NotUsage result)) }
-        ensures size { IfCommand arguments.now (codes "size") (length arguments.now < 2 → result ≡ Err Ended.Usage) }
-        ensures files { IfWord arguments.now 0
-            (λ command. Contains over_frames command → length arguments.now < 3 → result ≡ Err Ended.Usage) }
+impl<R: Env + Files + Input, A: Print, M: Print> Session<'_, R, A, M> {
+    fn subcommand(&self, line: &CommandLine) -> Work<Ended>
+        ensures none { count_of line.now.arguments ≡ 0 → result ≡ Err Ended.Usage }
+        ensures unknown { IfWord line.now 0 (λ command. ¬ Contains commands command → result ≡ Err Ended.Usage) }
+        ensures line { IfCommand line.now (codes "type") (count_of line.now.arguments ≢ 3 → result ≡ Err Ended.Usage) }
+        ensures link { IfCommand line.now (codes "type")
+            (IfWord line.now 1 (λ link. ¬ Contains links link → result ≡ Err Ended.Usage)) }
+        ensures typed { IfCommand line.now (codes "type")
+            (count_of line.now.arguments ≡ 3 → IfWord line.now 1 (λ link. Contains links link → NotUsage result)) }
+        ensures size { IfCommand line.now (codes "size") (count_of line.now.arguments < 2 → result ≡ Err Ended.Usage) }
+        ensures files { IfWord line.now 0
+            (λ command. Contains over_frames command → count_of line.now.arguments < 3 → result ≡ Err Ended.Usage) }
     {
-        let Some((command, rest)) = arguments.split_first() else {
+        let Some((_, rest)) = line.arguments.split_first() else {
             return Err(Ended::Usage);
         };
-        match command.word() {
-            b"type" => self.write(rest),
+        match line.command.bytes() {
+            b"type" => self.write(&line.second, rest),
             b"list" => self.list(rest),
             b"size" => self.size(rest),
             b"run" => self.run(rest),
@@ -120,35 +120,37 @@ impl<R: Files + Input, A: Print, M: Print> Session<'_, R, A, M> {
         }
     }
 
-    // The tree file of a typed line.
-    fn write(&self, arguments: &[Argument]) -> Work<Ended>
-        ensures number { length arguments.now ≢ 2 → result ≡ Err Ended.Usage }
-        ensures unlinked { IfWord arguments.now 0 (λ link. ¬ Contains links link → result ≡ Err Ended.Usage) }
-        ensures right { length arguments.now ≡ 2 → IfWord arguments.now 0 (λ link. Contains links link → NotUsage result) }
+    // The tree file of a typed line, whose link was read.
+    fn write(&self, link: &CommandWord, arguments: Arguments) -> Work<Ended>
+        ensures number { count_of arguments ≢ 2 → result ≡ Err Ended.Usage }
+        ensures unlinked { ¬ Contains links (word_of link.now) → result ≡ Err Ended.Usage }
+        ensures right { count_of arguments ≡ 2 → Contains links (word_of link.now) → NotUsage result }
     {
-        let mut room = [0u8; TREE_BYTES];
-        let given = self.typed(arguments, Behind::Nothing, &mut room)?;
+        let mut room = Room::new();
+        let given = self.typed(link, arguments, Behind::Nothing, &mut room)?;
         self.answered(self.answers.write_all(given.tree))
     }
 
     // What `pft` does with its arguments, and how that ended. Of wrong usage it says nothing: the script that starts it has the help.
-    pub fn pft(&self, arguments: &[Argument]) -> Ended
-        ensures none { length arguments.now ≡ 0 → result ≡ Ended.Usage }
-        ensures unknown { IfWord arguments.now 0 (λ command. ¬ Contains commands command → result ≡ Ended.Usage) }
-        ensures line { IfCommand arguments.now (codes "type") (length arguments.now ≢ 3 → result ≡ Ended.Usage) }
-        ensures link { IfCommand arguments.now (codes "type")
-            (IfWord arguments.now 1 (λ link. ¬ Contains links link → result ≡ Ended.Usage)) }
-        ensures typed { IfCommand arguments.now (codes "type")
-            (length arguments.now ≡ 3 → IfWord arguments.now 1 (λ link. Contains links link → result ≢ Ended.Usage)) }
-        ensures size { IfCommand arguments.now (codes "size") (length arguments.now < 2 → result ≡ Ended.Usage) }
-        ensures files { IfWord arguments.now 0
-            (λ command. Contains over_frames command → length arguments.now < 3 → result ≡ Ended.Usage) }
+    pub fn pft(&self, line: &CommandLine) -> Ended
+        ensures none { count_of line.now.arguments ≡ 0 → result ≡ Ended.Usage }
+        ensures unknown { IfWord line.now 0 (λ command. ¬ Contains commands command → result ≡ Ended.Usage) }
+        ensures line { IfCommand line.now (codes "type") (count_of line.now.arguments ≢ 3 → result ≡ Ended.Usage) }
+        ensures link { IfCommand line.now (codes "type")
+            (IfWord line.now 1 (λ link. ¬ Contains links link → result ≡ Ended.Usage)) }
+        ensures typed { IfCommand line.now (codes "type")
+            (count_of line.now.arguments ≡ 3 → IfWord line.now 1 (λ link. Contains links link → result ≢ Ended.Usage)) }
+        ensures size { IfCommand line.now (codes "size") (count_of line.now.arguments < 2 → result ≡ Ended.Usage) }
+        ensures files { IfWord line.now 0
+            (λ command. Contains over_frames command → count_of line.now.arguments < 3 → result ≡ Ended.Usage) }
     {
-        match self.subcommand(arguments) {
+        match self.subcommand(line) {
             Ok(ended) | Err(ended) => ended,
         }
     }
+}
 
+impl<R: Files + Input, A: Print, M: Print> Session<'_, R, A, M> {
     // Document 01's listing of standard input.
     pub fn pft_list(&self) -> Ended
         ensures { result ≢ Ended.Usage }

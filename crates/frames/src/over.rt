@@ -1,20 +1,33 @@
 // The files that are named: what `pft size`, `pft run` and `pft count` share.
-ghost use Rattle.std.specs.Prelude.{◌≡◌, ◌<◌, length, IsTrue};
+ghost use Rattle.std.specs.Prelude.{◌≡◌, ◌<◌, IsTrue};
+ghost use Rattle.frames.specs.Words.{count_of};
 
-use crate::argument::Argument;
+use crate::argument::{Arguments, PATH, argument};
 use crate::said::Name;
 use crate::{Ended, Session, Work};
 use std::io::Print;
+use std::rt::Env;
+
+// An argument of one byte tells it, and a longer one is none.
+fn is_standard_input(env: &impl Env, i: usize) -> bool {
+    let mut room = [0u8; 1];
+    matches!(argument(env, i, &mut room), Ok(b"-"))
+}
 
 // Whether standard input is named twice, which can be read once.
-pub fn names_input_twice(arguments: &[Argument]) -> bool
-    ensures { IsTrue result → 1 < length arguments.now }
+pub fn names_input_twice(env: &impl Env, arguments: Arguments) -> bool
+    ensures { IsTrue result → 1 < count_of arguments }
 {
-    arguments
-        .iter()
-        .filter(|argument| argument.word() == b"-".as_slice())
-        .count()
-        > 1
+    let mut is_named = false;
+    for i in arguments.first..arguments.end {
+        if is_standard_input(env, i) {
+            if is_named {
+                return true;
+            }
+            is_named = true;
+        }
+    }
+    false
 }
 
 impl<R, A: Print, M: Print> Session<'_, R, A, M> {
@@ -24,20 +37,23 @@ impl<R, A: Print, M: Print> Session<'_, R, A, M> {
         self.say(Name::File(b"-"), "named twice, and it can be read once");
         Ended::Usage
     }
+}
 
+impl<R: Env, A: Print, M: Print> Session<'_, R, A, M> {
     // Does something with each file, and answers how the worst of that ended.
     pub(crate) fn over<F: FnMut(&[u8]) -> Work<Ended>>(
         &self,
-        files: &[Argument],
+        files: Arguments,
         mut work: F,
     ) -> Work<Ended>
         requires { F.IsAlwaysCallable work }
     {
         let mut worst = Ended::Done;
-        for file in files {
-            let ended = match file.path() {
+        let mut room = [0u8; PATH];
+        for number in files.first..files.end {
+            let ended = match argument(self.rt, number, &mut room) {
                 Ok(path) => work(path)?,
-                Err(error) => self.unread(Name::Argument(file.number), error),
+                Err(error) => self.unread(Name::Argument(number), error),
             };
             worst = worst.max(ended);
         }

@@ -1,13 +1,14 @@
 // `pft run`: what is answered of a frame file, its verdict and its direct reading.
-ghost use Rattle.std.specs.Prelude.{◌≡◌, ◌<◌, length};
+ghost use Rattle.std.specs.Prelude.{◌≡◌, ◌<◌};
+ghost use Rattle.frames.specs.Words.{count_of};
 
-use crate::argument::Argument;
+use crate::argument::Arguments;
 use crate::said::{Name, VerdictWord};
-use crate::tree::{Behind, TREE_BYTES};
+use crate::tree::{Behind, Room};
 use crate::{Ended, PROGRAM_BYTES, Session, Work, program_of};
 use error::Refusal;
 use std::io::{Input, Print};
-use std::rt::Files;
+use std::rt::{Env, Files};
 
 // A frame has at most 65,535 bytes, so of a longer file so many tell that.
 const FRAME_BYTES: usize = 65536;
@@ -24,7 +25,7 @@ fn is_tree(r: Refusal) -> bool {
     )
 }
 
-impl<R: Files + Input, A: Print, M: Print> Session<'_, R, A, M> {
+impl<R: Env + Files + Input, A: Print, M: Print> Session<'_, R, A, M> {
     // Where there is no program the tree is read directly alone.
     fn run_program(
         &self,
@@ -63,10 +64,10 @@ impl<R: Files + Input, A: Print, M: Print> Session<'_, R, A, M> {
     }
 
     // A tree, and the frames that its program runs over. Without a program a frame may still be read directly.
-    pub(crate) fn run(&self, arguments: &[Argument]) -> Work<Ended>
-        ensures { length arguments.now < 2 → result ≡ Err Ended.Usage }
+    pub(crate) fn run(&self, arguments: Arguments) -> Work<Ended>
+        ensures { count_of arguments < 2 → result ≡ Err Ended.Usage }
     {
-        let mut room = [0u8; TREE_BYTES];
+        let mut room = Room::new();
         let given = self.tree(arguments, Behind::Files, &mut room)?;
         let tree = given.tree;
         let mut program = [0u8; PROGRAM_BYTES];

@@ -1,14 +1,15 @@
 // `pft size`: how many instructions the program of each tree has, by the question, which makes no program.
-ghost use Rattle.std.specs.Prelude.{◌≡◌, length};
+ghost use Rattle.std.specs.Prelude.{◌≡◌};
+ghost use Rattle.frames.specs.Words.{count_of};
 
-use crate::argument::Argument;
+use crate::argument::{Arguments, CommandWord};
 use crate::over::names_input_twice;
-use crate::tree::{Behind, Given, TREE_BYTES};
+use crate::tree::{Behind, Given, Room, TREE_BYTES};
 use crate::{Ended, Session, Work};
 use std::io::{Input, Print};
-use std::rt::Files;
+use std::rt::{Env, Files};
 
-impl<R: Files + Input, A: Print, M: Print> Session<'_, R, A, M> {
+impl<R: Env + Files + Input, A: Print, M: Print> Session<'_, R, A, M> {
     // An instruction has 8 bytes.
     fn size_of(&self, given: Given) -> Work<Ended> {
         match build::question(given.tree) {
@@ -26,7 +27,7 @@ impl<R: Files + Input, A: Print, M: Print> Session<'_, R, A, M> {
     // One tree file among others.
     fn size_file(&self, path: &[u8]) -> Work<Ended> {
         let mut room = [0u8; TREE_BYTES];
-        match self.tree_file(path, &[], &mut room) {
+        match self.tree_file(path, Arguments::NONE, &mut room) {
             Ok(given) => self.size_of(given),
             // The others have a size.
             Err(ended) => Ok(ended),
@@ -34,17 +35,17 @@ impl<R: Files + Input, A: Print, M: Print> Session<'_, R, A, M> {
     }
 
     // One tree file or more by name, or `--type` with a link and a line, alone.
-    pub(crate) fn size(&self, arguments: &[Argument]) -> Work<Ended>
-        ensures { length arguments.now ≡ 0 → result ≡ Err Ended.Usage }
+    pub(crate) fn size(&self, arguments: Arguments) -> Work<Ended>
+        ensures { count_of arguments ≡ 0 → result ≡ Err Ended.Usage }
     {
-        let Some(first) = arguments.first() else {
+        if arguments.is_empty() {
             return Err(Ended::Usage);
-        };
-        if first.is_option() {
-            let mut room = [0u8; TREE_BYTES];
+        }
+        if CommandWord::read(self.rt, arguments.first).is_option() {
+            let mut room = Room::new();
             return self.size_of(self.tree(arguments, Behind::Nothing, &mut room)?);
         }
-        if names_input_twice(arguments) {
+        if names_input_twice(self.rt, arguments) {
             return Err(self.named_twice());
         }
         self.over(arguments, |path| self.size_file(path))

@@ -1,21 +1,24 @@
 // A line that is typed, in two arguments, its link and its text: its tree, or why it has none.
-ghost use Rattle.std.specs.Prelude.{◌≡◌, ◌≢◌, ◌<◌, ◌↔◌, length, IsSome, Contains};
-ghost use Rattle.frames.specs.Words.{IfWord, links};
+ghost use Rattle.std.specs.Prelude.{◌≡◌, ◌≢◌, ◌<◌, ◌↔◌, IsSome, Contains};
+ghost use Rattle.frames.specs.Words.{count_of, links, word_of};
 
-use crate::argument::Argument;
+use crate::argument::{Arguments, CommandWord, PATH, argument};
 use crate::over::names_input_twice;
 use crate::said::{Name, Refused};
-use crate::tree::{Behind, Given, TREE_BYTES};
+use crate::tree::{Behind, Given, Room};
 use crate::{Ended, Session, Work};
 use ast::LinkType;
 use error::Refusal;
 use std::io;
 use std::io::{Input, Print};
-use std::rt::Files;
+use std::rt::{Env, Files};
 use typing::Fault;
 
 // The typing takes an array of as many bytes as the largest tree file has.
 const TYPED_BYTES: usize = 3080;
+
+// Room for the longest argument that Linux passes, 131,071 bytes.
+const LINE_BYTES: usize = 131072;
 
 // A link by its number in a tree file or its name. Both types of a `From` would be of other crates.
 fn link_of(word: &[u8]) -> Option<LinkType>
@@ -37,7 +40,7 @@ struct Rejected<'a> {
     fault: Fault,
 }
 
-impl<R: Files + Input, A: Print, M: Print> Session<'_, R, A, M> {
+impl<R: Env + Files + Input, A: Print, M: Print> Session<'_, R, A, M> {
     // ---- a line that is refused
 
     // Below the line a mark under the place, the refusal, and what could stand there.
@@ -75,9 +78,9 @@ impl<R: Files + Input, A: Print, M: Print> Session<'_, R, A, M> {
     fn typed_line<'a>(
         &self,
         link: LinkType,
-        line: &'a [u8],
-        files: &'a [Argument],
-        room: &'a mut [u8; TREE_BYTES],
+        line: &[u8],
+        files: Arguments,
+        room: &'a mut Room,
     ) -> Work<Given<'a>>
         ensures { result ≢ Err Ended.Usage }
     {
@@ -87,13 +90,32 @@ impl<R: Files + Input, A: Print, M: Print> Session<'_, R, A, M> {
             Ok(length) => length,
             Err(fault) => return Err(self.turned_down(Rejected { link, line, fault })),
         };
-        // The tree stands where one of a file does.
-        room[..TYPED_BYTES].copy_from_slice(&typed);
+        let size = line.len().min(PATH);
+        room.name[..size].copy_from_slice(&line[..size]);
+        room.tree[..TYPED_BYTES].copy_from_slice(&typed);
         Ok(Given {
-            name: Name::Line(line),
-            tree: room.get(..length).unwrap_or(b""),
+            name: Name::Line(&room.name[..size]),
+            tree: room.tree.get(..length).unwrap_or(b""),
             files,
         })
+    }
+
+    // The line that an argument is. Its room is large: no other call pays for it.
+    #[inline(never)]
+    fn typed_argument<'a>(
+        &self,
+        link: LinkType,
+        number: usize,
+        files: Arguments,
+        room: &'a mut Room,
+    ) -> Work<Given<'a>>
+        ensures { result ≢ Err Ended.Usage }
+    {
+        let mut line = [0u8; LINE_BYTES];
+        match argument(self.rt, number, &mut line) {
+            Ok(line) => self.typed_line(link, line, files, room),
+            Err(error) => Err(self.unread(Name::Argument(number), error)),
+        }
     }
 
     // ---- the arguments
@@ -112,7 +134,7 @@ impl<R: Files + Input, A: Print, M: Print> Session<'_, R, A, M> {
     }
 
     // Words behind the line may be its own.
-    fn misfit(&self, files: &[Argument]) -> Ended
+    fn misfit(&self, files: Arguments) -> Ended
         ensures { result ≡ Ended.Usage }
     {
         if !files.is_empty() {
@@ -122,34 +144,35 @@ impl<R: Files + Input, A: Print, M: Print> Session<'_, R, A, M> {
         Ended::Usage
     }
 
-    // A link, a line, and the files behind them.
+    // A link, which was read, a line, and the files behind them.
     pub(crate) fn typed<'a>(
         &self,
-        arguments: &'a [Argument],
+        word: &CommandWord,
+        arguments: Arguments,
         behind: Behind,
-        room: &'a mut [u8; TREE_BYTES],
+        room: &'a mut Room,
     ) -> Work<Given<'a>>
-        ensures few { length arguments.now < 2 → result ≡ Err Ended.Usage }
-        ensures many { behind ≡ Behind.Nothing → length arguments.now ≢ 2 → result ≡ Err Ended.Usage }
-        ensures unlinked { IfWord arguments.now 0 (λ link. ¬ Contains links link → result ≡ Err Ended.Usage) }
-        ensures right { behind ≡ Behind.Nothing → length arguments.now ≡ 2
-            → IfWord arguments.now 0 (λ link. Contains links link → result ≢ Err Ended.Usage) }
+        ensures few { count_of arguments < 2 → result ≡ Err Ended.Usage }
+        ensures many { behind ≡ Behind.Nothing → count_of arguments ≢ 2 → result ≡ Err Ended.Usage }
+        ensures unlinked { ¬ Contains links (word_of word.now) → result ≡ Err Ended.Usage }
+        ensures right { behind ≡ Behind.Nothing → count_of arguments ≡ 2
+            → Contains links (word_of word.now) → result ≢ Err Ended.Usage }
     {
-        let [first, line, files @ ..] = arguments else {
+        let Some((_, rest)) = arguments.split_first() else {
+            return Err(Ended::Usage);
+        };
+        let Some((line, files)) = rest.split_first() else {
             return Err(Ended::Usage);
         };
         if !behind.fits(files) {
             return Err(self.misfit(files));
         }
-        let Some(link) = link_of(first.word()) else {
-            return Err(self.no_link(first.word()));
+        let Some(link) = link_of(word.bytes()) else {
+            return Err(self.no_link(word.bytes()));
         };
-        if names_input_twice(files) {
+        if names_input_twice(self.rt, files) {
             return Err(self.named_twice());
         }
-        match line.line() {
-            Ok(text) => self.typed_line(link, text, files, room),
-            Err(error) => Err(self.unread(Name::Argument(line.number), error)),
-        }
+        self.typed_argument(link, line, files, room)
     }
 }
