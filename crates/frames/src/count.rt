@@ -72,6 +72,8 @@ impl<R: Env + Files + Input, A: Print, M: Print> Session<'_, R, A, M> {
     }
 
     // The source is closed before anything is said. A window starts where the capture does that is refused with 12.
+    // Not inlined, so that no other work takes the stack of its window.
+    #[inline(never)]
     fn count_source(
         &self,
         name: Name,

@@ -44,6 +44,8 @@ impl<R: Env + Files + Input, A: Print, M: Print> Session<'_, R, A, M> {
     // ---- a line that is refused
 
     // Below the line a mark under the place, the refusal, and what could stand there.
+    // Not inlined, so that a line that is taken takes no stack for that.
+    #[inline(never)]
     fn put_rejected(&self, rejected: Rejected) -> io::Result<()> {
         let to = &self.messages;
         let Rejected { link, line, fault } = rejected;
@@ -100,7 +102,8 @@ impl<R: Env + Files + Input, A: Print, M: Print> Session<'_, R, A, M> {
         })
     }
 
-    // The line that an argument is. Its room is large: no other call pays for it.
+    // The line that an argument is.
+    // Not inlined, so that no other work takes the stack of its room.
     #[inline(never)]
     fn typed_argument<'a>(
         &self,
