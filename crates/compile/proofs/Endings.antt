@@ -23,7 +23,7 @@ use Rattle.codegen.specs.Emit.{Code, emit}
 use Rattle.codegen.specs.Compile.{entry_facts, finished, returns, compile}
 use Rattle.emit.specs.declared.Emitter.{Emitter}
 use Rattle.emit.specs.Lines.{Below, waiting, assembled}
-use Rattle.emit.specs.Grown.{Answers, Empty, Lent, Kept, Room, Put, Grew, Replies, Open, stack_of, Settled, coded}
+use Rattle.emit.specs.Grown.{Answers, Empty, Lent, Kept, Room, Put, Grew, Replies, Open, len_of, row_of, Settled, coded}
 use Rattle.emit.proofs.Settling.{Held, before_end, told, settled, below_more}
 use Rattle.emit.proofs.Joins.{Near, settled_near}
 use Rattle.emit.proofs.Grow.{kept_then, Sized}
@@ -65,7 +65,7 @@ second_open {e} {f} h z p =
       most = omega (arith, h.insns, z.count);
       mark = omega arith;
       room = omega (arith, c.1, h.failures, ap length z.lost);
-      below = rw (c.1, z.lost) (below_more e.count (f.count + 1) (drop 0 (waiting e.failure)) (omega (arith, z.count)) h.lost);
+      below = rw (c.1, z.lost) (below_more e.count (f.count + 1) (drop 0 (waiting e.failures e.failure.now)) (omega (arith, z.count)) h.lost);
     }
 
 module _ {e f : Emitter} {r : Out (Unit {0})} (z : Settled Success 0 0 e f r) (c : Code) (d : Emitter) (s : Empty d) (g : Grew c d e) where
@@ -126,7 +126,7 @@ module _ {e f : Emitter} {r : Out (Unit {0})} (z : Settled Success 0 0 e f r) (c
 
 -- e stands over what is lent to d
 abbrev pub Begun : Emitter → Emitter → Type 0
-Begun d e = Lent d.link d.insns d.success.patches d.failure.patches e
+Begun d e = Lent d.link d.insns d.success d.failure e
 
 begun_kept : {d e : Emitter} → Begun d e → Kept d e
 begun_kept l = record {
@@ -139,7 +139,7 @@ begun_kept l = record {
   link = l.link;
 }
 
-pub begun_room : {s : List ℕ} {M : List Note} (d : Emitter) {e : Emitter} → Ready s M d.success.patches.now d.failure.patches.now → Empty e → Begun d e → Room (weight (tree_of s 0)) e
+pub begun_room : {s : List ℕ} {M : List Note} (d : Emitter) {e : Emitter} → Ready s M d.success.now d.failure.now → Empty e → Begun d e → Room (weight (tree_of s 0)) e
 begun_room d r z l = record {
   insns = omega (arith, r.insns, z.count);
   writings = omega (arith, r.insns, z.x_writes);
@@ -170,7 +170,7 @@ compiled_done t g h k = rw (← g, h) k
 
 -- ---- the walk's end
 
-pub ended : {s : List ℕ} {M : List Note} {c : Code} (k : Emitter) {d e : Emitter} → Ready s M k.success.patches.now k.failure.patches.now → Empty d → Begun k d → Grew c d e → Sized (weight (tree_of s 0)) d e → Ended e
+pub ended : {s : List ℕ} {M : List Note} {c : Code} (k : Emitter) {d e : Emitter} → Ready s M k.success.now k.failure.now → Empty d → Begun k d → Grew c d e → Sized (weight (tree_of s 0)) d e → Ended e
 ended k {e = e} r o l g z = record {
   insns = omega (arith, z.insns, o.count, r.insns);
   successes = omega (arith, z.successes, o.success, r.successes, z.won_room, ap length l.won);
@@ -179,11 +179,11 @@ ended k {e = e} r o l g z = record {
   lost = from_start Failure g (omega (arith, o.failure)) o.failure;
 }
   where
-    from_start : (s : Side) {c : Code} {d e : Emitter} → Grew c d e → Held s d → (stack_of s d).len ≡ 0 → Below e.count (drop 0 (waiting (stack_of s e)))
+    from_start : (s : Side) {c : Code} {d e : Emitter} → Grew c d e → Held s d → (len_of s d) ≡ 0 → Below e.count (drop 0 (waiting (len_of s e) (row_of s e)))
     from_start s {e = e} g h q =
         let b = before_end g s h 0 in
         let k : e.count + 0 ≡ e.count = omega arith in
-        subst (λ (m : ℕ). Below e.count (drop m (waiting (stack_of s e)))) q (rw k at b)
+        subst (λ (m : ℕ). Below e.count (drop m (waiting (len_of s e) (row_of s e)))) q (rw k at b)
 
 -- ---- in a lent row
 

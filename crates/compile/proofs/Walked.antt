@@ -18,7 +18,7 @@ use Rattle.codegen.specs.Block.{Block, turn, otherwise, resolved, far}
 use Rattle.codegen.specs.Emit.{Code, code, or_hoist, restored_after, emit}
 use Rattle.codegen.proofs.Shape.{Fits, weight, guards_small, tree_shape, hoist_shape}
 use Rattle.emit.specs.declared.Emitter.{Emitter}
-use Rattle.emit.specs.Grown.{Room, Kept, Grew, Turned, Replies, Open, Otherwise, coded, stack_of}
+use Rattle.emit.specs.Grown.{Room, Kept, Grew, Turned, Replies, Open, Otherwise, coded, len_of, row_of}
 use Rattle.emit.proofs.Grow.{kept_then, Sized, sized, knowing}
 use Rattle.emit.proofs.Settling.{opened, refacts, turn_far, turned_kept, turn_grew}
 use Rattle.emit.proofs.Outcome.{Went, reply_done, answer, turned_down, bind_refused, after, after_reply}
@@ -66,14 +66,14 @@ hoist_sized L t g h w = sized 24 (subst (All (Fits L 24)) w.eq (hoist_shape L (r
 -- ---- and
 
 -- what settles a block that was added with room to spare
-pub room_open : {c : Code} {e f : Emitter} (s : Side) {n m : ℕ} → Grew c e f → Room n e → Room m f → Open s (stack_of s e).len 0 f
+pub room_open : {c : Code} {e f : Emitter} (s : Side) {n m : ℕ} → Grew c e f → Room n e → Room m f → Open s (len_of s e) 0 f
 room_open Success g r q = opened Success 0 g (omega (arith, r.successes)) (omega (arith, q.successes)) (omega (arith, q.insns))
 room_open Failure g r q = opened Failure 0 g (omega (arith, r.failures)) (omega (arith, q.failures)) (omega (arith, q.insns))
 
 -- ---- or
 
-module _ (L : LinkType) (l r : Expr) (g : Facts) {e f k : Emitter} {q : Out (Unit {0})} (w : Went (emit L l g) e f) (o : Otherwise e.failure.len f k q)
-    (h : e.failure.len ≤ length e.failure.patches.now) where
+module _ (L : LinkType) (l r : Expr) (g : Facts) {e f k : Emitter} {q : Out (Unit {0})} (w : Went (emit L l g) e f) (o : Otherwise e.failures f k q)
+    (h : e.failures ≤ length e.failure.now) where
   left : Replies (coded f.facts (resolved (otherwise w.code.block))) e k q
   left = o.of w.code.block e (refacts w.grew) refl h
 
@@ -130,8 +130,8 @@ pub done_unless : (r : Out (Unit {0})) → ((q : Refusal) → r ≡ Err q → �
 done_unless (Ok u) h = refl
 done_unless (Err q) h = absurd (h q refl)
 
-module _ (L : LinkType) (t : Expr) (g : Facts) {d e f k : Emitter} {q : Out (Unit {0})} (p : Turned d e) (w : Went (emit L t g) e f) (o : Otherwise e.failure.len f k q)
-    (h : e.failure.len ≤ length e.failure.patches.now) where
+module _ (L : LinkType) (t : Expr) (g : Facts) {d e f k : Emitter} {q : Out (Unit {0})} (p : Turned d e) (w : Went (emit L t g) e f) (o : Otherwise e.failures f k q)
+    (h : e.failures ≤ length e.failure.now) where
   inner : Replies (coded f.facts (resolved (otherwise w.code.block))) e k q
   inner = o.of w.code.block e (refacts w.grew) refl h
 

@@ -62,10 +62,10 @@ pub record Compiles (o : Out (List Insn)) (d e : Emitter) (r : Out (Unit {0})) :
 -- places for the two returns, and pending jumps before them
 pub record Ended (e : Emitter) : Type 0 where
   pub insns : e.count + 2 ≤ 65536
-  pub successes : e.success.len ≤ length e.success.patches.now
-  pub failures : e.failure.len ≤ length e.failure.patches.now
-  pub won : Below e.count (drop 0 (waiting e.success))
-  pub lost : Below e.count (drop 0 (waiting e.failure))
+  pub successes : e.successes ≤ length e.success.now
+  pub failures : e.failures ≤ length e.failure.now
+  pub won : Below e.count (drop 0 (waiting e.successes e.success.now))
+  pub lost : Below e.count (drop 0 (waiting e.failures e.failure.now))
 
 -- the program of a block that was added from the start
 pub record Finishes (e f : Emitter) (r : Out (Unit {0})) : Type 0 where

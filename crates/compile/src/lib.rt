@@ -53,7 +53,7 @@ impl<'a> Noted<'a> {
         requires room { Room (weight (tree_of self.tree.now i)) e.old }
         ensures { Replies (E.emit e.old.link (tree_of self.entry.tree.now i) e.old.facts) e.old e.new result }
     {
-        let mark = e.success.len;
+        let mark = e.successes;
         self.emit_expr(i + 1, e)?;
         e.settle(Side::Success, mark, 0)?;
         let right = self.notes[i + 1].end;
@@ -83,7 +83,7 @@ impl<'a> Noted<'a> {
     {
         let facts = e.facts;
         let x_writes = e.x_writes;
-        let mark = e.failure.len;
+        let mark = e.failures;
         self.emit_expr(i + 1, e)?;
         let left = e.facts;
         let wrote_x = e.x_writes != x_writes;
@@ -106,7 +106,7 @@ impl<'a> Noted<'a> {
         let facts = e.facts;
         let x_writes = e.x_writes;
         e.turn();
-        let mark = e.failure.len;
+        let mark = e.failures;
         if let Err(refusal) = self.emit_expr(i + 1, e) {
             e.turn();
             return Err(refusal);
@@ -169,19 +169,19 @@ fn note_joins(tree: &[u8], notes: &mut [Note])
 // Nothing is added yet, and what the link type tells holds.
 fn begin(e: &mut Emitter<'_>)
     ensures empty { Empty e.new }
-    ensures lent { Lent e.old.link e.old.insns e.old.success.patches e.old.failure.patches e.new }
+    ensures lent { Lent e.old.link e.old.insns e.old.success e.old.failure e.new }
     ensures facts { e.new.facts ≡ C.entry_facts e.new.link }
 {
     e.count = 0;
-    e.success.len = 0;
-    e.failure.len = 0;
+    e.successes = 0;
+    e.failures = 0;
     e.x_writes = 0;
     e.facts = facts::entry_facts(e.link);
 }
 
 // The program of the file's tree, over whatever the emitter held.
 pub fn compile(tree: &[u8], notes: &mut [Note], e: &mut Emitter<'_>) -> Result<(), Refusal>
-    requires { W.Ready tree.now notes.old e.old.success.patches.now e.old.failure.patches.now }
+    requires { W.Ready tree.now notes.old e.old.success.now e.old.failure.now }
     ensures { W.Compiles (C.compile e.old.link (tree_of tree.now 0)) e.old e.new result }
 {
     note_joins(tree, notes);

@@ -285,7 +285,7 @@ pub fn check_sides<C: Check>(e: &mut Emitter<'_>, dir: Dir, test: &C, src: u32, 
             test.check(e, dst);
         }
         Dir::SrcOrDst => {
-            let mark = e.failure.len;
+            let mark = e.failures;
             test.check(e, src);
             e.otherwise(mark).unwrap();
             test.check(e, dst);

@@ -213,15 +213,15 @@ grows_then p q = knowing (q.facts ∙ p.facts) (then p q)
 -- at most n more of everything
 pub record Sized (n : ℕ) (e f : Emitter) : Type 0 where
   pub insns : f.count ≤ e.count + n
-  pub successes : f.success.len ≤ e.success.len + n
-  pub failures : f.failure.len ≤ e.failure.len + n
+  pub successes : f.successes ≤ e.successes + n
+  pub failures : f.failures ≤ e.failures + n
   pub writings : f.x_writes ≤ e.x_writes + n
   pub insns₀ : e.count ≤ f.count
-  pub successes₀ : e.success.len ≤ f.success.len
-  pub failures₀ : e.failure.len ≤ f.failure.len
+  pub successes₀ : e.successes ≤ f.successes
+  pub failures₀ : e.failures ≤ f.failures
   pub writings₀ : e.x_writes ≤ f.x_writes
-  pub won_room : length f.success.patches.now ≡ length e.success.patches.now
-  pub lost_room : length f.failure.patches.now ≡ length e.failure.patches.now
+  pub won_room : length f.success.now ≡ length e.success.now
+  pub lost_room : length f.failure.now ≡ length e.failure.now
 
 pub sized : {c : Code} {e f : Emitter} (n : ℕ) → length c.block ≤ n → Grew c e f → Sized n e f
 sized {c} {e} n h g =

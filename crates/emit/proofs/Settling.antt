@@ -26,7 +26,7 @@ use Rattle.codegen.proofs.Near.{length_turn}
 use Rattle.emit.specs.declared.Patch.{Patch}
 use Rattle.emit.specs.declared.Emitter.{Emitter}
 use Rattle.emit.specs.Lines.{assembled, with_distance, no_insn, exit_of, patch_of, place_of, pending, patches, waiting, writes, resolved, resolve, Below}
-use Rattle.emit.specs.Grown.{Kept, Grew, Grows, Answers, Turned, Replies, stack_of, Cut, Open, Settled, coded, Otherwise}
+use Rattle.emit.specs.Grown.{Kept, Grew, Grows, Answers, Turned, Replies, len_of, row_of, Cut, Open, Settled, coded, Otherwise}
 use Rattle.emit.proofs.Grow.{kept_then, assembled_length, far_append, reached, then, knowing}
 use Rattle.emit.proofs.Outcome.{answer, turned_down}
 use Rattle.emit.proofs.Resolving.{near_cons, far_cons}
@@ -256,21 +256,21 @@ below_more T U (p ∷ ps) h b = (omega (arith, b.0), below_more T U ps h b.1)
 -- ---- a block that was added
 
 -- what waits by a side, and its patches there
-waits : {c : Code} {e f : Emitter} (s : Side) → Grew c e f → waiting (stack_of s f) ≡ waiting (stack_of s e) ++ patches s e.count c.block
+waits : {c : Code} {e f : Emitter} (s : Side) → Grew c e f → waiting (len_of s f) (row_of s f) ≡ waiting (len_of s e) (row_of s e) ++ patches s e.count c.block
 waits Success g = g.won
 waits Failure g = g.lost
 
 -- a stack that reaches no further than its row
 abbrev pub Held : Side → Emitter → Type 0
-Held s e = (stack_of s e).len ≤ length (stack_of s e).patches.now
+Held s e = len_of s e ≤ length (row_of s e)
 
 module _ {c : Code} {e f : Emitter} (g : Grew c e f) (s : Side) (h : Held s e) where
-  pub segment : drop (stack_of s e).len (waiting (stack_of s f)) ≡ patches s e.count c.block
+  pub segment : drop (len_of s e) (waiting (len_of s f) (row_of s f)) ≡ patches s e.count c.block
   segment =
-      ap (drop (stack_of s e).len) (waits s g)
-      ∙ drop_at (waiting (stack_of s e)) (patches s e.count c.block) (stack_of s e).len (length-take-le (stack_of s e).len (stack_of s e).patches.now h)
+      ap (drop (len_of s e)) (waits s g)
+      ∙ drop_at (waiting (len_of s e) (row_of s e)) (patches s e.count c.block) (len_of s e) (length-take-le (len_of s e) (row_of s e) h)
 
-  pub before_end : (over : ℕ) → Below (f.count + over) (drop (stack_of s e).len (waiting (stack_of s f)))
+  pub before_end : (over : ℕ) → Below (f.count + over) (drop (len_of s e) (waiting (len_of s f) (row_of s f)))
   before_end over = rw segment (below_patches s e.count (f.count + over) c.block (omega (arith, g.insns)))
 
   -- where the row reaches to its end
@@ -296,7 +296,7 @@ cut_back S S' x m n h k e = sym (take-take m n S' k) ∙ ap (take m) e ∙ take_
 
 -- what is cut, and what is not
 module _ {c : Code} {d e f : Emitter} (g : Grew c d e) (over : ℕ) {r : Out (Unit {0})} where
-  module _ (s : Side) (h : Held s d) (z : Settled s (stack_of s d).len over e f r) where
+  module _ (s : Side) (h : Held s d) (z : Settled s (len_of s d) over e f r) where
     row : Answers (resolve (patches s d.count c.block) (e.count + over) e.insns.now) (λ ys. f.insns.now ≡ ys) r
     row = subst (λ (x : List Patch). Answers (resolve x (e.count + over) e.insns.now) (λ ys. f.insns.now ≡ ys) r) (segment g s h) z.row.is
 
@@ -314,8 +314,8 @@ module _ {c : Code} {d e f : Emitter} (g : Grew c d e) (over : ℕ) {r : Out (Un
         ap (take f.count) (w ∙ sym (append_assoc (take d.count d.insns.now) (assembled C) (drop e.count e.insns.now)))
         ∙ take_at (take d.count d.insns.now ++ assembled C) (drop e.count e.insns.now) f.count n
 
-  pub settled_success : Held Success d → (z : Settled Success d.success.len over e f r) → far (settle Success over c.block) ≡ false
-      → Cut Success d.success.len e f → Grew (code (settle Success over c.block) e.facts) d f
+  pub settled_success : Held Success d → (z : Settled Success d.successes over e f r) → far (settle Success over c.block) ≡ false
+      → Cut Success d.successes e f → Grew (code (settle Success over c.block) e.facts) d f
   settled_success h z near q = record {
     insns = rw (length_settle Success over c.block) (z.count ∙ g.insns);
     successes = rw (settle_gone Success over d.count c.block) (omega (arith, q.0));
@@ -324,14 +324,14 @@ module _ {c : Code} {d e f : Emitter} (g : Grew c d e) (over : ℕ) {r : Out (Un
     near = near;
     lines = lines_of Success h z near;
     won = rw (settle_gone Success over d.count c.block, append-nil, q.0, z.won)
-        (cut_back d.success.patches.now e.success.patches.now (patches Success d.count c.block) d.success.len e.success.len h (omega (arith, g.successes)) g.won);
+        (cut_back d.success.now e.success.now (patches Success d.count c.block) d.successes e.successes h (omega (arith, g.successes)) g.won);
     lost = rw (settle_kept Success over d.count c.block, q.1, z.lost) g.lost;
     facts = z.facts;
     kept = kept_then g.kept z.kept;
   }
 
-  pub settled_failure : Held Failure d → (z : Settled Failure d.failure.len over e f r) → far (settle Failure over c.block) ≡ false
-      → Cut Failure d.failure.len e f → Grew (code (settle Failure over c.block) e.facts) d f
+  pub settled_failure : Held Failure d → (z : Settled Failure d.failures over e f r) → far (settle Failure over c.block) ≡ false
+      → Cut Failure d.failures e f → Grew (code (settle Failure over c.block) e.facts) d f
   settled_failure h z near q = record {
     insns = rw (length_settle Failure over c.block) (z.count ∙ g.insns);
     successes = rw (settle_kept Failure over d.count c.block) (q.0 ∙ g.successes);
@@ -341,17 +341,17 @@ module _ {c : Code} {d e f : Emitter} (g : Grew c d e) (over : ℕ) {r : Out (Un
     lines = lines_of Failure h z near;
     won = rw (settle_kept Failure over d.count c.block, q.0, z.won) g.won;
     lost = rw (settle_gone Failure over d.count c.block, append-nil, q.1, z.lost)
-        (cut_back d.failure.patches.now e.failure.patches.now (patches Failure d.count c.block) d.failure.len e.failure.len h (omega (arith, g.failures)) g.lost);
+        (cut_back d.failure.now e.failure.now (patches Failure d.count c.block) d.failures e.failures h (omega (arith, g.failures)) g.lost);
     facts = z.facts;
     kept = kept_then g.kept z.kept;
   }
 
-  settled_side : (s : Side) → Held s d → Settled s (stack_of s d).len over e f r → far (settle s over c.block) ≡ false
-      → Cut s (stack_of s d).len e f → Grew (code (settle s over c.block) e.facts) d f
+  settled_side : (s : Side) → Held s d → Settled s (len_of s d) over e f r → far (settle s over c.block) ≡ false
+      → Cut s (len_of s d) e f → Grew (code (settle s over c.block) e.facts) d f
   settled_side Success h z near q = settled_success h z near q
   settled_side Failure h z near q = settled_failure h z near q
 
-  pub settled : (s : Side) → Held s d → Settled s (stack_of s d).len over e f r → Replies (coded e.facts (in_range (settle s over c.block))) d f r
+  pub settled : (s : Side) → Held s d → Settled s (len_of s d) over e f r → Replies (coded e.facts (in_range (settle s over c.block))) d f r
   settled s h z = go (far (settle s over c.block)) refl
     where
       go : (b : Bool) → far (settle s over c.block) ≡ b → Replies (coded e.facts (in_range (settle s over c.block))) d f r
@@ -367,7 +367,7 @@ otherwise_open {e} {f} mark g o h = record {
   most = omega (arith, g.insns);
   mark = omega (arith, g.failures, o.mark);
   room = omega (arith, g.failures, o.room, g.kept.lost_room);
-  below = rw (g.lost, append-nil) (below_more (e.count + 0) (f.count + 0) (drop mark (waiting e.failure)) (omega (arith, g.insns)) o.below);
+  below = rw (g.lost, append-nil) (below_more (e.count + 0) (f.count + 0) (drop mark (waiting e.failures e.failure.now)) (omega (arith, g.insns)) o.below);
 }
 
 pub otherwise_of : {e f k : Emitter} {r : Out (Unit {0})} (mark : ℕ) → Grows (Jump (Leave Success) ∷ []) e f → Settled Failure mark 0 f k r → Otherwise mark e k r
@@ -378,11 +378,11 @@ otherwise_of {e} {f} {k} {r} mark j z = record {
 }
 
 -- a block was added since a stack was so long
-more : {c : Code} {e f : Emitter} (s : Side) → Grew c e f → (stack_of s e).len ≤ (stack_of s f).len
+more : {c : Code} {e f : Emitter} (s : Side) → Grew c e f → len_of s e ≤ len_of s f
 more Success g = omega (arith, g.successes)
 more Failure g = omega (arith, g.failures)
 
-pub opened : {c : Code} {e f : Emitter} (s : Side) (over : ℕ) → Grew c e f → Held s e → Held s f → f.count + over < 2 ^ 64 → Open s (stack_of s e).len over f
+pub opened : {c : Code} {e f : Emitter} (s : Side) (over : ℕ) → Grew c e f → Held s e → Held s f → f.count + over < 2 ^ 64 → Open s (len_of s e) over f
 opened s over g h k n = record { most = n; mark = more s g; room = k; below = before_end g s h over }
 
 -- a block with the facts that hold after it
@@ -393,7 +393,7 @@ refacts g = knowing refl g
 otherwise_short : {c : Code} {e f : Emitter} → Grew c e f → length c.block ≤ 17 → far (otherwise c.block) ≡ false
 otherwise_short {c} g h = near_short c.block g.near (omega arith)
 
-module _ {c : Code} {d e f : Emitter} {r : Out (Unit {0})} (g : Grew c d e) (h : length c.block ≤ 17) (o : Otherwise d.failure.len e f r) (k : Held Failure d) where
+module _ {c : Code} {d e f : Emitter} {r : Out (Unit {0})} (g : Grew c d e) (h : length c.block ≤ 17) (o : Otherwise d.failures e f r) (k : Held Failure d) where
   tried : Replies (Ok (code (otherwise c.block) e.facts)) d f r
   tried = rw (otherwise_short g h) at (o.of c.block d (refacts g) refl k)
 

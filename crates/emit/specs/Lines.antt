@@ -1,4 +1,4 @@
--- Blocks as the code holds them: their instructions in a row, and two stacks of pending jumps.
+-- Blocks as the code holds them: their instructions in a row, and two rows of pending jumps.
 use Rattle.std.specs.Prelude.{ℕ, ◌+◌, ◌-◌, ◌<◌, List, [], ◌∷◌, cond, map, take, get_or, set, ltb, Ok, Err}
 use Rattle.error.specs.declared.Refusal.TheVariants.{FarJump}
 use Rattle.error.specs.Answer.{Out}
@@ -14,7 +14,6 @@ use Rattle.codegen.specs.declared.Line.TheVariants.{Plain, Branch, Jump}
 use Rattle.codegen.specs.Block.{Block, same, sets_x, assemble}
 use Rattle.emit.specs.declared.Patch.{Patch}
 use Rattle.emit.specs.declared.Patch.TheVariants as P
-use Rattle.emit.specs.declared.Stack.{Stack}
 
 -- ---- lines
 
@@ -58,9 +57,9 @@ abbrev pub patches : Side → ℕ → Block → List Patch
 patches e i [] = []
 patches e i (l ∷ b) = pending e (patch_of l i) (exit_of l) (patches e (i + 1) b)
 
--- those of a stack
-abbrev pub waiting : Stack → List Patch
-waiting s = take s.len s.patches.now
+-- those that a row holds, the first n
+abbrev pub waiting : ℕ → List Patch → List Patch
+waiting n row = take n row
 
 -- ---- resolving
 

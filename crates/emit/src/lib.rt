@@ -1,14 +1,14 @@
 // Blocks in lent slices: codegen.rs `push`, `resolve`, `check_byte` and their like.
 #![tactic(auto)]
 
-ghost use Rattle.std.specs.Prelude.{◌≡◌, false, [], ◌∷◌, ◌+◌, ◌-◌, ◌≤◌, ◌<◌, length, set, drop};
+ghost use Rattle.std.specs.Prelude.{◌≡◌, false, [], ◌∷◌, ◌+◌, ◌-◌, ◌≤◌, ◌<◌, ◌++◌, length, set, take, drop};
 ghost use Rattle.codegen.specs.declared.Side.TheVariants.{Success, Failure};
 ghost use Rattle.codegen.specs.declared.Exit.TheVariants.{Leave};
 ghost use Rattle.codegen.specs.declared.Line.TheVariants.{Jump};
 ghost use Rattle.codegen.specs.Facts.{no_facts};
 ghost use Rattle.codegen.specs.Block.{far_line};
 ghost use Rattle.codegen.specs.Emit as E;
-ghost use Rattle.emit.specs.Lines.{exit_of, patch_of, place_of, resolved, resolve, Below, waiting};
+ghost use Rattle.emit.specs.Lines.{assembled, exit_of, patch_of, place_of, resolved, resolve, Below, waiting};
 ghost use Rattle.emit.specs.Grown.{Empty, Lent, Turned, Fits, Space, Spared, Apart, Put, Free, Waits, Grows, Settles, Open, Settled, Otherwise};
 
 use ast::LinkType;
@@ -97,47 +97,49 @@ pub fn resolve_all(insns: &mut [Insn], patches: &[Patch], target: usize) -> Resu
     Ok(())
 }
 
-// The pending jumps by one side: those of a lent row up to a length.
-// No memory is asked for, so that the row is lent and its length stands beside it.
-#[derive(Drop)]
-pub struct Stack<'a> {
-    pub patches: &'a mut [Patch],
-    pub len: usize,
+// Puts a pending jump behind the `len` that a row holds.
+fn push(row: &mut [Patch], len: &mut usize, patch: Patch)
+    requires { len.old < length row.old }
+    ensures len { len.new ≡ len.old + 1 }
+    ensures row { row.new ≡ set row.old len.old patch }
+{
+    row[*len] = patch;
+    *len += 1;
 }
 
-impl<'a> Stack<'a> {
-    fn push(&mut self, patch: Patch)
-        requires { self.old.len < length self.old.patches.now }
-        ensures len { self.new.len ≡ self.old.len + 1 }
-        ensures patches { self.new.patches.now ≡ set self.old.patches.now self.old.len patch }
-        ensures same_reference { self.new.patches.ghost_name ≡ self.old.patches.ghost_name }
-    {
-        self.patches[self.len] = patch;
-        self.len += 1;
-    }
-
-    // Gives the pending jumps since the stack was `mark` long their distance to a target.
-    fn settle(&self, insns: &mut [Insn], mark: usize, target: usize) -> Result<(), Refusal>
-        requires mark { mark ≤ self.now.len }
-        requires room { self.now.len ≤ length self.now.patches.now }
-        requires below { Below target (drop mark (waiting self.now)) }
-        ensures { Settles (resolve (drop mark (waiting self.now)) target insns.old) insns.new result }
-    {
-        resolve_all(insns, &self.patches[mark..self.len], target)
-    }
+// Gives the pending jumps that a row holds, since it held `mark`, their distance to a target.
+// The row stays. It is lent as the emitter holds it: a shared loan of a field beside one that is written is not proved yet.
+fn settle_row(
+    insns: &mut [Insn],
+    row: &mut [Patch],
+    mark: usize,
+    len: usize,
+    target: usize,
+) -> Result<(), Refusal>
+    requires mark { mark ≤ len }
+    requires room { len ≤ length row.old }
+    requires below { Below target (drop mark (waiting len row.old)) }
+    ensures insns { Settles (resolve (drop mark (waiting len row.old)) target insns.old) insns.new result }
+    ensures row { row.new ≡ row.old }
+{
+    resolve_all(insns, &row[mark..len], target)
 }
 
 // ---- a program that is being written
 
-// The lines so far, as far as the lent row reaches: who asks for the count alone lends none; the jumps that are still open; how often X was
-// written; and the facts on the path that code falls through.
+// The lines so far, as far as the lent row reaches: who asks for the count alone lends none; the jumps that are still open, by each side the
+// first of a lent row; how often X was written; and the facts on the path that code falls through.
+// A row and its length are a stack. They are fields of the emitter itself: of a row in a struct within it a caller that lent it would know
+// nothing once the emitter is gone.
 #[derive(Drop)]
 pub struct Emitter<'a> {
     pub link: LinkType,
     pub insns: &'a mut [Insn],
     pub count: usize,
-    pub success: Stack<'a>,
-    pub failure: Stack<'a>,
+    pub success: &'a mut [Patch],
+    pub successes: usize,
+    pub failure: &'a mut [Patch],
+    pub failures: usize,
     pub x_writes: usize,
     pub facts: Facts,
 }
@@ -158,14 +160,10 @@ impl<'a> Emitter<'a> {
             link,
             insns,
             count: 0,
-            success: Stack {
-                patches: success,
-                len: 0,
-            },
-            failure: Stack {
-                patches: failure,
-                len: 0,
-            },
+            success,
+            successes: 0,
+            failure,
+            failures: 0,
             x_writes: 0,
             facts: Facts::none(),
         }
@@ -176,6 +174,7 @@ impl<'a> Emitter<'a> {
         ensures { Turned self.old self.new }
     {
         std::mem::swap(&mut self.success, &mut self.failure);
+        std::mem::swap(&mut self.successes, &mut self.failures);
     }
 
     // Writes an instruction at the end, if the lent row reaches so far.
@@ -187,15 +186,15 @@ impl<'a> Emitter<'a> {
         self.count += 1;
     }
 
-    // A jump that is still open, on the stack of its side.
+    // A jump that is still open, in the row of its side.
     fn wait(&mut self, exit: Exit, patch: Patch)
         requires { Free exit self.old }
         ensures { Waits exit patch self.old self.new }
     {
         match exit {
             Exit::Skip(_) => {}
-            Exit::Leave(Side::Success) => self.success.push(patch),
-            Exit::Leave(Side::Failure) => self.failure.push(patch),
+            Exit::Leave(Side::Success) => push(self.success, &mut self.successes, patch),
+            Exit::Leave(Side::Failure) => push(self.failure, &mut self.failures, patch),
         }
     }
 
@@ -214,8 +213,7 @@ impl<'a> Emitter<'a> {
     }
 
     // The exits by a side, since its stack was `mark` long, go to so many lines past the end.
-    // Two arms: a method that lends one of the stacks would hold the whole emitter, whose row is written meanwhile. Each cuts its stack here,
-    // since a method that cuts it and lends a part of its row is not proved to leave the row as it was.
+    // Two arms: a method that lends one of the rows would hold the whole emitter, whose lines are written meanwhile.
     pub fn settle(&mut self, side: Side, mark: usize, over: usize) -> Result<(), Refusal>
         requires { Open side mark over self.old }
         ensures { Settled side mark over self.old self.new result }
@@ -223,12 +221,14 @@ impl<'a> Emitter<'a> {
         let target = self.count + over;
         match side {
             Side::Success => {
-                self.success.settle(self.insns, mark, target)?;
-                self.success.len = mark;
+                let len = self.successes;
+                settle_row(self.insns, self.success, mark, len, target)?;
+                self.successes = mark;
             }
             Side::Failure => {
-                self.failure.settle(self.insns, mark, target)?;
-                self.failure.len = mark;
+                let len = self.failures;
+                settle_row(self.insns, self.failure, mark, len, target)?;
+                self.failures = mark;
             }
         }
         Ok(())
@@ -265,4 +265,32 @@ impl<'a> Emitter<'a> {
         self.add(Line::Plain(Op::LdAbs(width, off)));
         self.need(expected);
     }
+}
+
+// ---- a caller's own rows
+
+// `need` over rows that a caller goes on with, and what stands in them once the emitter is gone.
+// The emitter is written out here: of what is lent through `new` no more than `insns` is known then.
+pub fn need_in(k: u32, insns: &mut [Insn], count: usize, failure: &mut [Patch], failures: usize)
+    requires place { count + 1 ≤ 65536 }
+    requires free { failures < length failure.old }
+    ensures line { count < length insns.old → take (count + 1) insns.new ≡ take count insns.old ++ assembled (E.need k ∷ []) }
+    ensures waits { waiting (failures + 1) failure.new ≡ waiting failures failure.old ++ (patch_of (E.need k) count ∷ []) }
+{
+    // How often X was written before tells nothing here.
+    let x_writes = 0;
+    let mut e = Emitter {
+        link: LinkType::Ethernet,
+        insns,
+        count,
+        success: &mut [],
+        successes: 0,
+        failure,
+        failures,
+        x_writes,
+        facts: Facts::none(),
+    };
+    e.need(k);
+    let _insns = e.insns;
+    let _failure = e.failure;
 }

@@ -122,7 +122,7 @@ suffices {s} most c few m y i cap a b d =
 
 -- an emitter over arrays that suffice
 pub ready : {L : LinkType} {s : List ℕ} {M : List Note} {I : MutBor (List Insn)} {Y N : MutBor (List Patch)} {n l j lent : ℕ} {e : Emitter} → Stands s → Suffices s n l j lent
-    → length M ≡ n → length Y.now ≡ j → length N.now ≡ j → Lent L I Y N e → Ready s M e.success.patches.now e.failure.patches.now
+    → length M ≡ n → length Y.now ≡ j → length N.now ≡ j → Lent L I Y N e → Ready s M e.success.now e.failure.now
 ready c z m y k h = record {
   noting = record { here = c.here; notes = λ w. omega (arith, z.notes w, m) };
   proper = c.proper;

@@ -135,7 +135,7 @@ emit_arms-returns-in_err-emit_expr-2 t c =
     let p = c.requires.parts in
     let r = tree_of a.self.tree.now (end_of a.self.tree.now (a.i + 1)) in
     let w = reply_done c.emit_expr.ensures c.in_ok-emit_expr.was in
-    let h : a.e.now.failure.len ≤ length a.e.now.failure.patches.now = omega (arith, c.requires.room.failures) in
+    let h : a.e.now.failures ≤ length a.e.now.failure.now = omega (arith, c.requires.room.failures) in
     let n = arms_left a.e.now.link _ r a.e.now.facts w c.otherwise.ensures h c.in_ok-otherwise.was in
     handed_on c.from_residual-in_err-emit_expr-2.ensures.1
     (arms_done a.e.now.link _ r a.e.now.facts w c.otherwise.ensures h c.in_ok-otherwise.was c.restored-e.ensures
@@ -148,7 +148,7 @@ emit_arms-returns t c =
     let p = c.requires.parts in
     let r = tree_of a.self.tree.now (end_of a.self.tree.now (a.i + 1)) in
     let w = reply_done c.emit_expr.ensures c.in_ok-emit_expr.was in
-    let h : a.e.now.failure.len ≤ length a.e.now.failure.patches.now = omega (arith, c.requires.room.failures) in
+    let h : a.e.now.failures ≤ length a.e.now.failure.now = omega (arith, c.requires.room.failures) in
     let n = arms_left a.e.now.link _ r a.e.now.facts w c.otherwise.ensures h c.in_ok-otherwise.was in
     arms_done a.e.now.link _ r a.e.now.facts w c.otherwise.ensures h c.in_ok-otherwise.was c.restored-e.ensures
     (right_done c.emit_expr.new.e.facts n.grew.kept.link (ap (tree_of a.self.tree.now) (noted_end v p)) refl c.emit_expr-2.ensures c.in_ok-emit_expr-2.was c.meet-e.ensures)
