@@ -1,7 +1,7 @@
 // What `pft` says, answers and messages on standard output, and its exit status, for each of several groups of arguments. A group ends with `;`.
 #![tactic(auto)]
 
-use frames::{Arguments, CommandLine, Session, CommandWord};
+use frames::{Arguments, CommandLine, CommandWord, Session};
 use std::io::{Print, Result};
 
 // Writes the arguments of a group. One that is longer than a path shows as nothing.
