@@ -11,6 +11,7 @@ ghost use Rattle.codegen.specs.Emit as E;
 ghost use Rattle.codegen.specs.Nets6 as N;
 ghost use Rattle.std.proofs.Common.{rules};
 ghost use Rattle.emit.specs.Grown.{Place, Space, Room, Spared, Grows, Replies};
+ghost use Rattle.conditions.specs.Added.{Adds};
 ghost use Rattle.conditions.specs.Loads as L;
 
 use ast::{Dir, LinkType};
@@ -174,7 +175,7 @@ pub fn check_addr4(e: &mut Emitter<'_>, dir: Dir, src: Op, dst: Op, mask: Option
 
 // ---- several loads, by direction
 
-// A test of some loads at a place.
+// A test of some loads at a place. Of the rows that the emitter was lent it tells what is added to them, and that they stay as long.
 pub trait Check {
     ghost block: { Self → ℕ → Block };
 
@@ -183,12 +184,41 @@ pub trait Check {
     fn check(&self, e: &mut Emitter<'_>, off: u32)
         requires room { Space most e.old }
         requires place { off < 65536 }
+        ensures lines { Adds (block self.now off) e.old e.new }
+        ensures short { length (block self.now off) ≤ most };
+
+    // Its lines are far fewer than a jump goes over.
+    ghost few: { most ≤ 17 };
+}
+
+// One that goes on with the same rows, and leaves that of the successes whole. Each of the generator's tests does.
+pub trait SparingCheck {
+    ghost block: { Self → ℕ → Block };
+
+    ghost most: { ℕ };
+
+    fn check_sparing(&self, e: &mut Emitter<'_>, off: u32)
+        requires room { Space most e.old }
+        requires place { off < 65536 }
         ensures lines { Grows (block self.now off) e.old e.new }
         ensures spared { Spared Success e.old e.new }
         ensures short { length (block self.now off) ≤ most };
 
     // Its lines are far fewer than a jump goes over.
     ghost few: { most ≤ 17 };
+}
+
+impl<C: SparingCheck> Check for C {
+    ghost block = { C.block };
+
+    ghost most = { C.most };
+
+    ghost few = { C.few };
+
+    #[tactic(auto, using(crate::proofs::Adding::adds))]
+    fn check(&self, e: &mut Emitter<'_>, off: u32) {
+        self.check_sparing(e, off);
+    }
 }
 
 // A segment under a mask that is not full, the last one tested; nothing under a mask of 0.
@@ -204,7 +234,7 @@ fn check_last(e: &mut Emitter<'_>, mask: u32, expected: u32, off: u32)
 }
 
 // `check_net6`: the segments of an address as far as the masks reach. All of them where each is full: `check_ip6_addr`.
-impl Check for Net6 {
+impl SparingCheck for Net6 {
     ghost block = { λ net off. N.tests net.masks net.expected off };
 
     ghost most = { 17 };
@@ -212,7 +242,7 @@ impl Check for Net6 {
     ghost few = { Prim.search rules };
 
     #[tactic(auto, using(crate::proofs::Nets::tests_short))]
-    fn check(&self, e: &mut Emitter<'_>, off: u32) {
+    fn check_sparing(&self, e: &mut Emitter<'_>, off: u32) {
         // By number: a segment's place in the frame is told by it.
         for i in 0..8 {
             let at = off + 2 * i as u32;
@@ -233,7 +263,7 @@ pub struct Range {
     pub high: u32,
 }
 
-impl Check for Range {
+impl SparingCheck for Range {
     ghost block = { λ range off. E.check_range range.low range.high off };
 
     ghost most = { 3 };
@@ -241,7 +271,7 @@ impl Check for Range {
     ghost few = { Prim.search rules };
 
     #[tactic(auto, unfolding(codegen::specs::Emit::check_range))]
-    fn check(&self, e: &mut Emitter<'_>, off: u32) {
+    fn check_sparing(&self, e: &mut Emitter<'_>, off: u32) {
         e.add(Line::Plain(Op::LdhInd(off)));
         e.add(Line::Branch(Test::Jge, self.low, Slot::Jf, Exit::Leave(Side::Failure)));
         e.add(Line::Branch(Test::Jgt, self.high, Slot::Jt, Exit::Leave(Side::Failure)));
@@ -255,14 +285,14 @@ pub struct Mac {
     pub two: u32,
 }
 
-impl Check for Mac {
+impl SparingCheck for Mac {
     ghost block = { λ mac off. L.mac_block mac.four mac.two off };
 
     ghost most = { 4 };
 
     ghost few = { Prim.search rules };
 
-    fn check(&self, e: &mut Emitter<'_>, off: u32) {
+    fn check_sparing(&self, e: &mut Emitter<'_>, off: u32) {
         e.check(Width::Word, off, self.four);
         e.check(Width::Half, off + 4, self.two);
     }
@@ -271,11 +301,36 @@ impl Check for Mac {
 // Two tests by direction. With either, the second is tried where the first fails.
 // Five parameters: the test, and the two places where it is made, which each caller reckons from another start.
 #[tactic(auto, unfolding(codegen::specs::Emit::check_blocks))]
-pub fn check_sides<C: Check>(e: &mut Emitter<'_>, dir: Dir, test: &C, src: u32, dst: u32)
+pub fn sparing_sides<C: SparingCheck>(e: &mut Emitter<'_>, dir: Dir, test: &C, src: u32, dst: u32)
     requires room { Room (C.most + 1 + C.most) e.old }
     requires src { src < 65536 }
     requires dst { dst < 65536 }
     ensures { Grows (E.check_blocks dir (C.block test.now src) (C.block test.now dst)) e.old e.new }
+{
+    match dir {
+        Dir::Src => test.check_sparing(e, src),
+        Dir::Dst => test.check_sparing(e, dst),
+        Dir::SrcAndDst => {
+            test.check_sparing(e, src);
+            test.check_sparing(e, dst);
+        }
+        Dir::SrcOrDst => {
+            let mark = e.failures;
+            test.check_sparing(e, src);
+            e.otherwise(mark).unwrap();
+            test.check_sparing(e, dst);
+        }
+    }
+}
+
+// The same of any two tests, and as much as these tell.
+// A function of its own: what a sparing test tells besides would be lost in one for both.
+#[tactic(auto, unfolding(codegen::specs::Emit::check_blocks))]
+pub fn check_sides<C: Check>(e: &mut Emitter<'_>, dir: Dir, test: &C, src: u32, dst: u32)
+    requires room { Room (C.most + 1 + C.most) e.old }
+    requires src { src < 65536 }
+    requires dst { dst < 65536 }
+    ensures { Adds (E.check_blocks dir (C.block test.now src) (C.block test.now dst)) e.old e.new }
 {
     match dir {
         Dir::Src => test.check(e, src),
@@ -322,7 +377,7 @@ pub fn emit_net6(
 {
     emit_ethertype(e, IPV6)?;
     let n = net_offset(e.link);
-    check_sides(e, dir, &net6_of(prefix, segments), n + 8, n + 24);
+    sparing_sides(e, dir, &net6_of(prefix, segments), n + 8, n + 24);
     Ok(())
 }
 
@@ -367,3 +422,6 @@ pub fn emit_ip6_multicast(e: &mut Emitter<'_>) -> Result<(), Refusal>
     e.check(Width::Byte, n + 24, 0xff);
     Ok(())
 }
+
+#[cfg(test)]
+mod tests;

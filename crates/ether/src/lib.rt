@@ -10,7 +10,7 @@ ghost use Rattle.conditions.specs.Loads as L;
 
 use ast::{Dir, LinkType};
 use codegen::{Exit, Line, Op, Side, Slot, Test, Width};
-use conditions::{Check, Mac, check_sides};
+use conditions::{Mac, SparingCheck, sparing_sides};
 use emit::Emitter;
 use error::Refusal;
 
@@ -44,7 +44,7 @@ fn emit_sender(e: &mut Emitter<'_>, dir: Dir, mac: &Mac) -> Result<(), Refusal>
     match dir {
         Dir::Src => {
             e.check(Width::Half, LENGTH, MAC_LENGTH);
-            mac.check(e, SOURCE);
+            mac.check_sparing(e, SOURCE);
             Ok(())
         }
         Dir::Dst | Dir::SrcAndDst | Dir::SrcOrDst => Err(Refusal::CookedAddress),
@@ -59,7 +59,7 @@ pub fn emit_ether_host(e: &mut Emitter<'_>, dir: Dir, mac: &Mac) -> Result<(), R
 {
     match e.link {
         LinkType::Ethernet => {
-            check_sides(e, turned(dir), mac, DESTINATION, SOURCE);
+            sparing_sides(e, turned(dir), mac, DESTINATION, SOURCE);
             Ok(())
         }
         LinkType::RawIp => Err(Refusal::EtherOnRaw),

@@ -23,8 +23,8 @@ use codegen::{
     ready_for,
 };
 use conditions::{
-    Range, Version, check_addr4, check_sides, emit_ethertype, emit_l4, ether_proto_offset,
-    net_offset,
+    Range, Version, check_addr4, emit_ethertype, emit_l4, ether_proto_offset, net_offset,
+    sparing_sides,
 };
 use emit::Emitter;
 use error::Refusal;
@@ -233,7 +233,7 @@ pub fn emit_portrange(e: &mut Emitter<'_>, dir: Dir, want: L4Set, range: &Range)
 {
     emit_port_prereqs_set(e, want);
     let n = net_offset(e.link);
-    check_sides(e, dir, range, n, n + 2);
+    sparing_sides(e, dir, range, n, n + 2);
 }
 
 // ---- hoisting

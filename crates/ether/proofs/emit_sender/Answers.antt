@@ -3,4 +3,4 @@ use Rattle.emit.proofs.Outcome.{answer}
 use Rattle.ether.proofs.emit_sender.Goals as goal
 
 pub returns-in-Src-clause-answer : goal.returns-in-Src-clause-answer
-returns-in-Src-clause-answer c = rw c.in-Src.is (answer (grows_then c.check.ensures.lines c.check-in-Src.ensures.lines))
+returns-in-Src-clause-answer c = rw c.in-Src.is (answer (grows_then c.check.ensures.lines c.check_sparing.ensures.lines))

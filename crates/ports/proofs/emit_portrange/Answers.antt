@@ -7,4 +7,4 @@ pub returns : goal.returns
 returns c =
     let a = c.args in
     then_at (λ n. check_blocks a.dir (check_range a.range.now.low a.range.now.high n) (check_range a.range.now.low a.range.now.high (n + 2))) c.emit_port_prereqs_set.ensures.lines
-    (rw c.net_offset-n.ensures.offset at c.check_sides.ensures)
+    (rw c.net_offset-n.ensures.offset at c.sparing_sides.ensures)

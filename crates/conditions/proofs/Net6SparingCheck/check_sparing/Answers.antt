@@ -1,7 +1,7 @@
 use Rattle.std.proofs.Common.{rules, arith, ◌≡◌, ◌∙◌, ◌+◌, ◌*◌, length}
 use Rattle.emit.proofs.Grow.{sized, sized_then, none, grows_then}
 use Rattle.conditions.proofs.Nets.{tests_more, tests_last, tests_end}
-use Rattle.conditions.proofs.Net6Check.check.Goals as goal
+use Rattle.conditions.proofs.Net6SparingCheck.check_sparing.Goals as goal
 
 pub returns-then-mask-clause-lines : goal.returns-then-mask-clause-lines
 returns-then-mask-clause-lines c =

@@ -1,6 +1,6 @@
 use Rattle.codegen.specs.Emit.{check_range}
 use Rattle.emit.proofs.Grow.{grows_then}
-use Rattle.conditions.proofs.RangeCheck.check.Goals as goal
+use Rattle.conditions.proofs.RangeSparingCheck.check_sparing.Goals as goal
 
 pub returns-clause-lines : goal.returns-clause-lines
 unfolding check_range

@@ -4,7 +4,7 @@ use Rattle.codegen.specs.Nets6.{tests}
 use Rattle.emit.specs.declared.Emitter.{Emitter}
 use Rattle.emit.specs.Grown.{Spared, Grows}
 use Rattle.emit.proofs.Grow.{Sized}
-use Rattle.conditions.proofs.Net6Check.check.Given as goal
+use Rattle.conditions.proofs.Net6SparingCheck.check_sparing.Given as goal
 
 abbrev pub invariant-loop-i : goal.invariant-loop-i
 invariant-loop-i l = record {
