@@ -13,5 +13,5 @@ fn main(rt: HostRuntime) {
         first: 1,
         end: frames::argument_count(&rt),
     };
-    frames::tell(session.pft(&CommandLine::read(&rt, arguments)));
+    frames::tell(session.pft_by_number(&CommandLine::read(&rt, arguments)));
 }

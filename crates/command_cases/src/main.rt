@@ -23,7 +23,7 @@ fn answer(rt: &HostRuntime, group: Arguments) -> Result<()> {
         answers: rt.stdout(),
         messages: rt.stdout(),
     };
-    let status = session.pft(&CommandLine::read(rt, group)) as u8;
+    let status = session.pft_by_number(&CommandLine::read(rt, group)) as u8;
     println!(rt; "status {status}")
 }
 

@@ -1,7 +1,9 @@
 // The program's arguments, which are read by number where they are needed. Argument 0 is the program's name.
-ghost use Rattle.std.specs.Prelude.{◌≡◌, ◌≤◌, ◌<◌, ◌+◌, ◌↔◌, length, take, IsTrue, IfOk, IfSome, IfNone};
+ghost use Rattle.std.specs.Prelude.{◌≡◌, ◌≤◌, ◌<◌, ◌+◌, ◌↔◌, length, take, slice_get, IsTrue, IfOk, IfSome, IfNone};
 ghost use Rattle.io.specs.Counts.{IsPrefixLen};
 
+use crate::listed::Argument;
+use crate::source::HasArguments;
 use std::env::FillError;
 use std::io::{Error, ErrorKind, Result};
 use std::rt::Env;
@@ -10,7 +12,7 @@ use std::rt::Env;
 pub(crate) const PATH: usize = 4096;
 
 // Linux's number of a name that is too long: its kind is also that of one that is no text.
-const ENAMETOOLONG: i32 = 36;
+pub(crate) const ENAMETOOLONG: i32 = 36;
 
 // ---- one argument
 
@@ -25,10 +27,14 @@ pub fn argument_count(env: &impl Env) -> usize {
 }
 
 // Puts an argument at the start of a buffer, and answers its bytes, which need not be text.
-pub(crate) fn argument<'a>(env: &impl Env, i: usize, buffer: &'a mut [u8]) -> Result<&'a [u8]>
+pub(crate) fn argument<'a>(
+    source: &impl HasArguments,
+    i: usize,
+    buffer: &'a mut [u8],
+) -> Result<&'a [u8]>
     ensures { IfOk result (λ bytes. length bytes.now ≤ length buffer.old) }
 {
-    match env.arg(i, buffer) {
+    match source.argument_at(i, buffer) {
         Ok(n) => Ok(&buffer[..n]),
         Err(FillError::TooLong) => Err(Error::from_raw_os_error(ENAMETOOLONG)),
         Err(FillError::NotPresent) => Err(Error::from(ErrorKind::InvalidInput)),
@@ -39,7 +45,14 @@ pub(crate) fn argument<'a>(env: &impl Env, i: usize, buffer: &'a mut [u8]) -> Re
 pub fn word(env: &impl Env, i: usize, buffer: &mut [u8]) -> usize
     ensures { IsPrefixLen result buffer.new }
 {
-    match env.arg(i, buffer) {
+    word_at(env, i, buffer)
+}
+
+// The same of any source.
+fn word_at(source: &impl HasArguments, i: usize, buffer: &mut [u8]) -> usize
+    ensures { IsPrefixLen result buffer.new }
+{
+    match source.argument_at(i, buffer) {
         Ok(n) => n,
         Err(_) => 0,
     }
@@ -55,19 +68,44 @@ pub struct CommandWord {
 }
 
 impl CommandWord {
-    ghost use Rattle.frames.specs.Words.{word_of};
+    ghost use Rattle.frames.specs.Words.{bytes_of, word_of};
 
     pub fn read(env: &impl Env, number: usize) -> CommandWord
         ensures { result.number ≡ number }
     {
+        CommandWord::read_at(env, number)
+    }
+
+    // The same of any source.
+    pub(crate) fn read_at(source: &impl HasArguments, number: usize) -> CommandWord
+        ensures { result.number ≡ number }
+    {
         let mut room = [0; PATH];
-        let size = word(env, number, &mut room);
+        let size = word_at(source, number, &mut room);
         CommandWord { number, room, size }
+    }
+
+    // As a list has it. One that is not there counts as an empty one.
+    fn listed(arguments: &[Argument], place: usize) -> CommandWord
+        ensures { IfSome (slice_get arguments.now place) (λ a. bytes_of result ≡ word_of a) }
+    {
+        let word = match arguments.get(place) {
+            Some(argument) => argument.word(),
+            None => b"",
+        };
+        let mut room = [0; PATH];
+        let size = word.len();
+        room[..size].copy_from_slice(word);
+        CommandWord {
+            number: place,
+            room,
+            size,
+        }
     }
 
     pub fn bytes(&self) -> &[u8]
         ensures bound { length result.now ≤ 4096 }
-        ensures whole { result.now ≡ word_of self.now }
+        ensures whole { result.now ≡ bytes_of self.now }
     {
         &self.room[..self.size]
     }
@@ -125,6 +163,8 @@ pub struct CommandLine {
 }
 
 impl CommandLine {
+    ghost use Rattle.frames.specs.Words.{Lists, count_of};
+
     pub fn read(env: &impl Env, arguments: Arguments) -> CommandLine
         ensures arguments { result.arguments ≡ arguments }
         ensures command { result.command.number ≡ arguments.first }
@@ -134,6 +174,22 @@ impl CommandLine {
             arguments,
             command: CommandWord::read(env, arguments.first),
             second: CommandWord::read(env, arguments.first.saturating_add(1)),
+        }
+    }
+
+    // As a list has it, by the places in it.
+    pub(crate) fn listed(arguments: &[Argument]) -> CommandLine
+        ensures count { count_of result.arguments ≡ length arguments.now }
+        ensures command { Lists result arguments.now 0 }
+        ensures second { Lists result arguments.now 1 }
+    {
+        CommandLine {
+            arguments: Arguments {
+                first: 0,
+                end: arguments.len(),
+            },
+            command: CommandWord::listed(arguments, 0),
+            second: CommandWord::listed(arguments, 1),
         }
     }
 }

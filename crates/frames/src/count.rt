@@ -4,6 +4,7 @@ ghost use Rattle.frames.specs.Words.{count_of};
 
 use crate::argument::Arguments;
 use crate::said::{LinkName, Name, Refused};
+use crate::source::{HasArguments, HasFiles};
 use crate::tree::{Behind, Room};
 use crate::{Ended, PROGRAM_BYTES, Session, Work, program_of};
 use ast::LinkType;
@@ -13,7 +14,7 @@ use files::Source;
 use std::fmt;
 use std::fmt::{Display, Formatter, Write};
 use std::io::{Input, Print};
-use std::rt::{Env, Files};
+use std::rt::Files;
 
 // Room for the longest frame with its header, 65,551 bytes, and for many others in one read.
 const ROOM: usize = 262144;
@@ -54,7 +55,7 @@ impl Display for Stopped<'_> {
     }
 }
 
-impl<R: Env + Files + Input, A: Print, M: Print> Session<'_, R, A, M> {
+impl<R: HasArguments + HasFiles, A: Print, M: Print> Session<'_, R, A, M> {
     fn kept(&self, name: Name, tally: Tally, of: &str) -> Work<Ended> {
         let Tally { kept, given, .. } = tally;
         self.answer(name, format_args!("kept {kept} {of} {given} frames"))
@@ -77,7 +78,7 @@ impl<R: Env + Files + Input, A: Print, M: Print> Session<'_, R, A, M> {
     fn count_source(
         &self,
         name: Name,
-        mut source: Source<R::File, R::Reader>,
+        mut source: Source<<R::Host as Files>::File, <R::Host as Input>::Reader>,
         program: &[u8],
         link: LinkType,
     ) -> Work<Ended> {
@@ -101,7 +102,7 @@ impl<R: Env + Files + Input, A: Print, M: Print> Session<'_, R, A, M> {
 
     fn count_file(&self, path: &[u8], program: &[u8], link: LinkType) -> Work<Ended> {
         let name = Name::File(path);
-        match files::open(self.rt, path) {
+        match files::open(self.rt.host(), path) {
             Ok(source) => self.count_source(name, source, program, link),
             Err(error) => Ok(self.unread(name, error)),
         }

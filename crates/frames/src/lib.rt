@@ -1,9 +1,9 @@
 // What `pft` answers and says: its subcommands over trees, which are files or typed lines, frame files and captures by name.
 #![tactic(auto)]
 
-ghost use Rattle.std.specs.Prelude.{◌≡◌, ◌≢◌, ◌<◌, Contains, MatchResult, codes, Err, IfOk, IfErr};
+ghost use Rattle.std.specs.Prelude.{◌≡◌, ◌≢◌, ◌<◌, length, Contains, MatchResult, codes, Err, IfOk, IfErr};
 ghost use Rattle.build.specs.Build.{build};
-ghost use Rattle.frames.specs.Words.{IfCommand, IfWord, commands, count_of, links, over_frames, word_of};
+ghost use Rattle.frames.specs.Words.{IfCommand, IfCommandRead, IfWord, IfWordRead, bytes_of, commands, count_of, links, over_frames};
 ghost use Rattle.frames.specs.Endings.{NotUsage};
 ghost use Rattle.frames.specs.Program.{IsProgram};
 
@@ -11,10 +11,12 @@ mod argument;
 mod count;
 mod ended;
 mod list;
+mod listed;
 mod over;
 mod run;
 mod said;
 mod size;
+mod source;
 mod tree;
 mod typed;
 
@@ -22,7 +24,9 @@ pub use argument::{Arguments, CommandLine, CommandWord, argument_count, word};
 use ended::Work;
 pub use ended::{Ended, STATUS_FILENO, tell, tell_on};
 use error::Refusal;
+pub use listed::{Argument, arguments};
 use said::{Name, Reason, Refused, Unread};
+use source::{HasArguments, HasFiles, Listed};
 use std::fmt::Display;
 use std::io;
 use std::io::{Error, Input, Print};
@@ -94,17 +98,17 @@ fn program_of<'a>(tree: &[u8], room: &'a mut [u8; PROGRAM_BYTES]) -> Result<&'a 
     Ok(&room[..8 * count as usize])
 }
 
-impl<R: Env + Files + Input, A: Print, M: Print> Session<'_, R, A, M> {
+impl<R: HasArguments + HasFiles, A: Print, M: Print> Session<'_, R, A, M> {
     fn subcommand(&self, line: &CommandLine) -> Work<Ended>
         ensures none { count_of line.now.arguments ≡ 0 → result ≡ Err Ended.Usage }
-        ensures unknown { IfWord line.now 0 (λ command. ¬ Contains commands command → result ≡ Err Ended.Usage) }
-        ensures line { IfCommand line.now (codes "type") (count_of line.now.arguments ≢ 3 → result ≡ Err Ended.Usage) }
-        ensures link { IfCommand line.now (codes "type")
-            (IfWord line.now 1 (λ link. ¬ Contains links link → result ≡ Err Ended.Usage)) }
-        ensures typed { IfCommand line.now (codes "type")
-            (count_of line.now.arguments ≡ 3 → IfWord line.now 1 (λ link. Contains links link → NotUsage result)) }
-        ensures size { IfCommand line.now (codes "size") (count_of line.now.arguments < 2 → result ≡ Err Ended.Usage) }
-        ensures files { IfWord line.now 0
+        ensures unknown { IfWordRead line.now 0 (λ command. ¬ Contains commands command → result ≡ Err Ended.Usage) }
+        ensures line { IfCommandRead line.now (codes "type") (count_of line.now.arguments ≢ 3 → result ≡ Err Ended.Usage) }
+        ensures link { IfCommandRead line.now (codes "type")
+            (IfWordRead line.now 1 (λ link. ¬ Contains links link → result ≡ Err Ended.Usage)) }
+        ensures typed { IfCommandRead line.now (codes "type")
+            (count_of line.now.arguments ≡ 3 → IfWordRead line.now 1 (λ link. Contains links link → NotUsage result)) }
+        ensures size { IfCommandRead line.now (codes "size") (count_of line.now.arguments < 2 → result ≡ Err Ended.Usage) }
+        ensures files { IfWordRead line.now 0
             (λ command. Contains over_frames command → count_of line.now.arguments < 3 → result ≡ Err Ended.Usage) }
     {
         let Some((_, rest)) = line.arguments.split_first() else {
@@ -123,25 +127,27 @@ impl<R: Env + Files + Input, A: Print, M: Print> Session<'_, R, A, M> {
     // The tree file of a typed line, whose link was read.
     fn write(&self, link: &CommandWord, arguments: Arguments) -> Work<Ended>
         ensures number { count_of arguments ≢ 2 → result ≡ Err Ended.Usage }
-        ensures unlinked { ¬ Contains links (word_of link.now) → result ≡ Err Ended.Usage }
-        ensures right { count_of arguments ≡ 2 → Contains links (word_of link.now) → NotUsage result }
+        ensures unlinked { ¬ Contains links (bytes_of link.now) → result ≡ Err Ended.Usage }
+        ensures right { count_of arguments ≡ 2 → Contains links (bytes_of link.now) → NotUsage result }
     {
         let mut room = Room::new();
         let given = self.typed(link, arguments, Behind::Nothing, &mut room)?;
         self.answered(self.answers.write_all(given.tree))
     }
+}
 
-    // What `pft` does with its arguments, and how that ended. Of wrong usage it says nothing: the script that starts it has the help.
-    pub fn pft(&self, line: &CommandLine) -> Ended
+impl<R: Env + Files + Input, A: Print, M: Print> Session<'_, R, A, M> {
+    // What `pft` does with its arguments, read by number, and how that ended. Of wrong usage it says nothing: the script that starts it has the help.
+    pub fn pft_by_number(&self, line: &CommandLine) -> Ended
         ensures none { count_of line.now.arguments ≡ 0 → result ≡ Ended.Usage }
-        ensures unknown { IfWord line.now 0 (λ command. ¬ Contains commands command → result ≡ Ended.Usage) }
-        ensures line { IfCommand line.now (codes "type") (count_of line.now.arguments ≢ 3 → result ≡ Ended.Usage) }
-        ensures link { IfCommand line.now (codes "type")
-            (IfWord line.now 1 (λ link. ¬ Contains links link → result ≡ Ended.Usage)) }
-        ensures typed { IfCommand line.now (codes "type")
-            (count_of line.now.arguments ≡ 3 → IfWord line.now 1 (λ link. Contains links link → result ≢ Ended.Usage)) }
-        ensures size { IfCommand line.now (codes "size") (count_of line.now.arguments < 2 → result ≡ Ended.Usage) }
-        ensures files { IfWord line.now 0
+        ensures unknown { IfWordRead line.now 0 (λ command. ¬ Contains commands command → result ≡ Ended.Usage) }
+        ensures line { IfCommandRead line.now (codes "type") (count_of line.now.arguments ≢ 3 → result ≡ Ended.Usage) }
+        ensures link { IfCommandRead line.now (codes "type")
+            (IfWordRead line.now 1 (λ link. ¬ Contains links link → result ≡ Ended.Usage)) }
+        ensures typed { IfCommandRead line.now (codes "type")
+            (count_of line.now.arguments ≡ 3 → IfWordRead line.now 1 (λ link. Contains links link → result ≢ Ended.Usage)) }
+        ensures size { IfCommandRead line.now (codes "size") (count_of line.now.arguments < 2 → result ≡ Ended.Usage) }
+        ensures files { IfWordRead line.now 0
             (λ command. Contains over_frames command → count_of line.now.arguments < 3 → result ≡ Ended.Usage) }
     {
         match self.subcommand(line) {
@@ -151,6 +157,30 @@ impl<R: Env + Files + Input, A: Print, M: Print> Session<'_, R, A, M> {
 }
 
 impl<R: Files + Input, A: Print, M: Print> Session<'_, R, A, M> {
+    // The same with arguments in a list.
+    pub fn pft(&self, arguments: &[Argument]) -> Ended
+        ensures none { length arguments.now ≡ 0 → result ≡ Ended.Usage }
+        ensures unknown { IfWord arguments.now 0 (λ command. ¬ Contains commands command → result ≡ Ended.Usage) }
+        ensures line { IfCommand arguments.now (codes "type") (length arguments.now ≢ 3 → result ≡ Ended.Usage) }
+        ensures link { IfCommand arguments.now (codes "type")
+            (IfWord arguments.now 1 (λ link. ¬ Contains links link → result ≡ Ended.Usage)) }
+        ensures typed { IfCommand arguments.now (codes "type")
+            (length arguments.now ≡ 3 → IfWord arguments.now 1 (λ link. Contains links link → result ≢ Ended.Usage)) }
+        ensures size { IfCommand arguments.now (codes "size") (length arguments.now < 2 → result ≡ Ended.Usage) }
+        ensures files { IfWord arguments.now 0
+            (λ command. Contains over_frames command → length arguments.now < 3 → result ≡ Ended.Usage) }
+    {
+        let session = Session {
+            rt: &Listed {
+                host: self.rt,
+                arguments,
+            },
+            answers: &self.answers,
+            messages: &self.messages,
+        };
+        ended::how(session.subcommand(&CommandLine::listed(arguments)))
+    }
+
     // Document 01's listing of standard input.
     pub fn pft_list(&self) -> Ended
         ensures { result ≢ Ended.Usage }

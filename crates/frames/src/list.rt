@@ -2,11 +2,11 @@
 ghost use Rattle.frames.specs.Endings.{NotUsage};
 
 use crate::argument::{Arguments, CommandWord};
+use crate::source::{HasArguments, HasFiles};
 use crate::tree::{Behind, Given, Room, TREE_BYTES};
 use crate::{Ended, PROGRAM_BYTES, Session, Work, program_of};
 use listing::{Form, Listing};
-use std::io::{Input, Print};
-use std::rt::{Env, Files};
+use std::io::Print;
 
 // The form that an option asks for. Both types of a `From` would be of other crates.
 fn form_of(word: &[u8]) -> Option<Form> {
@@ -18,7 +18,7 @@ fn form_of(word: &[u8]) -> Option<Form> {
     }
 }
 
-impl<R: Files + Input, A: Print, M: Print> Session<'_, R, A, M> {
+impl<R: HasFiles, A: Print, M: Print> Session<'_, R, A, M> {
     fn put_listing(&self, program: &[u8], form: Form) -> Work<Ended>
         ensures { NotUsage result }
     {
@@ -44,11 +44,11 @@ impl<R: Files + Input, A: Print, M: Print> Session<'_, R, A, M> {
     }
 }
 
-impl<R: Env + Files + Input, A: Print, M: Print> Session<'_, R, A, M> {
+impl<R: HasArguments + HasFiles, A: Print, M: Print> Session<'_, R, A, M> {
     // The form and the arguments after its option, if there is one.
     fn form_and_rest(&self, arguments: Arguments) -> (Form, Arguments) {
         if let Some((first, rest)) = arguments.split_first() {
-            if let Some(form) = form_of(CommandWord::read(self.rt, first).bytes()) {
+            if let Some(form) = form_of(CommandWord::read_at(self.rt, first).bytes()) {
                 return (form, rest);
             }
         }

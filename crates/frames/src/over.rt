@@ -4,23 +4,23 @@ ghost use Rattle.frames.specs.Words.{count_of};
 
 use crate::argument::{Arguments, PATH, argument};
 use crate::said::Name;
+use crate::source::HasArguments;
 use crate::{Ended, Session, Work};
-use std::io::Print;
-use std::rt::Env;
+use std::io::{Error, Print};
 
 // An argument of one byte tells it, and a longer one is none.
-fn is_standard_input(env: &impl Env, i: usize) -> bool {
+fn is_standard_input(source: &impl HasArguments, i: usize) -> bool {
     let mut room = [0u8; 1];
-    matches!(argument(env, i, &mut room), Ok(b"-"))
+    matches!(argument(source, i, &mut room), Ok(b"-"))
 }
 
 // Whether standard input is named twice, which can be read once.
-pub fn names_input_twice(env: &impl Env, arguments: Arguments) -> bool
+pub fn names_input_twice(source: &impl HasArguments, arguments: Arguments) -> bool
     ensures { IsTrue result → 1 < count_of arguments }
 {
     let mut is_named = false;
     for i in arguments.first..arguments.end {
-        if is_standard_input(env, i) {
+        if is_standard_input(source, i) {
             if is_named {
                 return true;
             }
@@ -39,7 +39,14 @@ impl<R, A: Print, M: Print> Session<'_, R, A, M> {
     }
 }
 
-impl<R: Env, A: Print, M: Print> Session<'_, R, A, M> {
+impl<R: HasArguments, A: Print, M: Print> Session<'_, R, A, M> {
+    // An argument that no path can be, by its number.
+    pub(crate) fn unread_argument(&self, place: usize, error: Error) -> Ended
+        ensures { result ≡ Ended.Failed }
+    {
+        self.unread(Name::Argument(self.rt.number_at(place)), error)
+    }
+
     // Does something with each file, and answers how the worst of that ended.
     pub(crate) fn over<F: FnMut(&[u8]) -> Work<Ended>>(
         &self,
@@ -53,7 +60,7 @@ impl<R: Env, A: Print, M: Print> Session<'_, R, A, M> {
         for number in files.first..files.end {
             let ended = match argument(self.rt, number, &mut room) {
                 Ok(path) => work(path)?,
-                Err(error) => self.unread(Name::Argument(number), error),
+                Err(error) => self.unread_argument(number, error),
             };
             worst = worst.max(ended);
         }

@@ -4,11 +4,11 @@ ghost use Rattle.frames.specs.Words.{count_of};
 
 use crate::argument::Arguments;
 use crate::said::{Name, VerdictWord};
+use crate::source::{HasArguments, HasFiles};
 use crate::tree::{Behind, Room};
 use crate::{Ended, PROGRAM_BYTES, Session, Work, program_of};
 use error::Refusal;
-use std::io::{Input, Print};
-use std::rt::{Env, Files};
+use std::io::Print;
 
 // A frame has at most 65,535 bytes, so of a longer file so many tell that.
 const FRAME_BYTES: usize = 65536;
@@ -25,7 +25,7 @@ fn is_tree(r: Refusal) -> bool {
     )
 }
 
-impl<R: Env + Files + Input, A: Print, M: Print> Session<'_, R, A, M> {
+impl<R: HasArguments + HasFiles, A: Print, M: Print> Session<'_, R, A, M> {
     // Where there is no program the tree is read directly alone.
     fn run_program(
         &self,
@@ -53,7 +53,7 @@ impl<R: Env + Files + Input, A: Print, M: Print> Session<'_, R, A, M> {
     fn run_frame(&self, path: &[u8], tree: &[u8], program: Option<&[u8]>) -> Work<Ended> {
         let name = Name::File(path);
         let mut room = [0u8; FRAME_BYTES];
-        let frame = match files::read(self.rt, path, &mut room) {
+        let frame = match files::read(self.rt.host(), path, &mut room) {
             Ok(n) => &room[..n],
             Err(error) => return Ok(self.unread(name, error)),
         };

@@ -4,12 +4,12 @@ ghost use Rattle.frames.specs.Words.{count_of};
 
 use crate::argument::{Arguments, CommandWord};
 use crate::over::names_input_twice;
+use crate::source::{HasArguments, HasFiles};
 use crate::tree::{Behind, Given, Room, TREE_BYTES};
 use crate::{Ended, Session, Work};
-use std::io::{Input, Print};
-use std::rt::{Env, Files};
+use std::io::Print;
 
-impl<R: Env + Files + Input, A: Print, M: Print> Session<'_, R, A, M> {
+impl<R: HasArguments + HasFiles, A: Print, M: Print> Session<'_, R, A, M> {
     // An instruction has 8 bytes.
     fn size_of(&self, given: Given) -> Work<Ended> {
         match build::question(given.tree) {
@@ -41,7 +41,7 @@ impl<R: Env + Files + Input, A: Print, M: Print> Session<'_, R, A, M> {
         if arguments.is_empty() {
             return Err(Ended::Usage);
         }
-        if CommandWord::read(self.rt, arguments.first).is_option() {
+        if CommandWord::read_at(self.rt, arguments.first).is_option() {
             let mut room = Room::new();
             return self.size_of(self.tree(arguments, Behind::Nothing, &mut room)?);
         }

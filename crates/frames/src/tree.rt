@@ -5,9 +5,9 @@ ghost use Rattle.frames.specs.Words.{count_of};
 use crate::argument::{Arguments, CommandWord, PATH, argument};
 use crate::over::names_input_twice;
 use crate::said::Name;
+use crate::source::{HasArguments, HasFiles};
 use crate::{Ended, Session, Work};
-use std::io::{Input, Print};
-use std::rt::{Env, Files};
+use std::io::Print;
 
 // What stands behind a tree among the arguments: nothing, or one file or more.
 #[derive(Clone, Copy)]
@@ -56,7 +56,7 @@ impl Room {
     }
 }
 
-impl<R: Files + Input, A: Print, M: Print> Session<'_, R, A, M> {
+impl<R: HasFiles, A: Print, M: Print> Session<'_, R, A, M> {
     // A tree file by name.
     pub(crate) fn tree_file<'a>(
         &self,
@@ -67,7 +67,7 @@ impl<R: Files + Input, A: Print, M: Print> Session<'_, R, A, M> {
         ensures { result ≢ Err Ended.Usage }
     {
         let name = Name::File(path);
-        match files::read(self.rt, path, room) {
+        match files::read(self.rt.host(), path, room) {
             Ok(n) => Ok(Given {
                 name,
                 tree: &room[..n],
@@ -85,7 +85,7 @@ impl<R: Files + Input, A: Print, M: Print> Session<'_, R, A, M> {
     }
 }
 
-impl<R: Env + Files + Input, A: Print, M: Print> Session<'_, R, A, M> {
+impl<R: HasArguments + HasFiles, A: Print, M: Print> Session<'_, R, A, M> {
     // A tree, which is a name or `--type` with a link and a line, and the files behind it.
     pub(crate) fn tree<'a>(
         &self,
@@ -98,9 +98,9 @@ impl<R: Env + Files + Input, A: Print, M: Print> Session<'_, R, A, M> {
         let Some((first, files)) = arguments.split_first() else {
             return Err(Ended::Usage);
         };
-        let word = CommandWord::read(self.rt, first);
+        let word = CommandWord::read_at(self.rt, first);
         if word.bytes() == b"--type".as_slice() {
-            let link = CommandWord::read(self.rt, files.first);
+            let link = CommandWord::read_at(self.rt, files.first);
             return self.typed(&link, files, behind, room);
         }
         if word.is_option() || !behind.fits(files) {
@@ -110,7 +110,7 @@ impl<R: Env + Files + Input, A: Print, M: Print> Session<'_, R, A, M> {
         match argument(self.rt, first, name) {
             Ok(_) if names_input_twice(self.rt, arguments) => Err(self.named_twice()),
             Ok(path) => self.tree_file(path, files, tree),
-            Err(error) => Err(self.unread(Name::Argument(first), error)),
+            Err(error) => Err(self.unread_argument(first, error)),
         }
     }
 }

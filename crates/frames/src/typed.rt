@@ -1,24 +1,24 @@
 // A line that is typed, in two arguments, its link and its text: its tree, or why it has none.
 ghost use Rattle.std.specs.Prelude.{◌≡◌, ◌≢◌, ◌<◌, ◌↔◌, IsSome, Contains};
-ghost use Rattle.frames.specs.Words.{count_of, links, word_of};
+ghost use Rattle.frames.specs.Words.{bytes_of, count_of, links};
 
 use crate::argument::{Arguments, CommandWord, PATH, argument};
 use crate::over::names_input_twice;
 use crate::said::{Name, Refused};
+use crate::source::{HasArguments, HasFiles};
 use crate::tree::{Behind, Given, Room};
 use crate::{Ended, Session, Work};
 use ast::LinkType;
 use error::Refusal;
 use std::io;
-use std::io::{Input, Print};
-use std::rt::{Env, Files};
+use std::io::Print;
 use typing::Fault;
 
 // The typing takes an array of as many bytes as the largest tree file has.
 const TYPED_BYTES: usize = 3080;
 
 // Room for the longest argument that Linux passes, 131,071 bytes.
-const LINE_BYTES: usize = 131072;
+pub(crate) const LINE_BYTES: usize = 131072;
 
 // A link by its number in a tree file or its name. Both types of a `From` would be of other crates.
 fn link_of(word: &[u8]) -> Option<LinkType>
@@ -40,7 +40,7 @@ struct Rejected<'a> {
     fault: Fault,
 }
 
-impl<R: Env + Files + Input, A: Print, M: Print> Session<'_, R, A, M> {
+impl<R: HasArguments + HasFiles, A: Print, M: Print> Session<'_, R, A, M> {
     // ---- a line that is refused
 
     // Below the line a mark under the place, the refusal, and what could stand there.
@@ -117,7 +117,7 @@ impl<R: Env + Files + Input, A: Print, M: Print> Session<'_, R, A, M> {
         let mut line = [0u8; LINE_BYTES];
         match argument(self.rt, number, &mut line) {
             Ok(line) => self.typed_line(link, line, files, room),
-            Err(error) => Err(self.unread(Name::Argument(number), error)),
+            Err(error) => Err(self.unread_argument(number, error)),
         }
     }
 
@@ -157,9 +157,9 @@ impl<R: Env + Files + Input, A: Print, M: Print> Session<'_, R, A, M> {
     ) -> Work<Given<'a>>
         ensures few { count_of arguments < 2 → result ≡ Err Ended.Usage }
         ensures many { behind ≡ Behind.Nothing → count_of arguments ≢ 2 → result ≡ Err Ended.Usage }
-        ensures unlinked { ¬ Contains links (word_of word.now) → result ≡ Err Ended.Usage }
+        ensures unlinked { ¬ Contains links (bytes_of word.now) → result ≡ Err Ended.Usage }
         ensures right { behind ≡ Behind.Nothing → count_of arguments ≡ 2
-            → Contains links (word_of word.now) → result ≢ Err Ended.Usage }
+            → Contains links (bytes_of word.now) → result ≢ Err Ended.Usage }
     {
         let Some((_, rest)) = arguments.split_first() else {
             return Err(Ended::Usage);
